@@ -221,6 +221,7 @@ no_fault (commands.Replay false) input report text makes = replay_fits (is_sessi
 no_fault commands.Show input report text makes = ap image_fault makes.0
 no_fault (commands.Widen raw) input report text makes = ap (fault_of raw) makes.0.widened ∙ ap written_fault makes.0.written
 no_fault commands.Check input report text makes = makes.0
+no_fault commands.Kv input report text makes = ap script_fault makes.spelled
 
 -- a command ends well
 pub ends_well : (words : List (List ℕ)) (source : Stream) (report : Option RunReport) (out : List ℕ) → Does words source report out

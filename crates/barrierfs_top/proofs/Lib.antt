@@ -7,5 +7,6 @@ pub mod Promised
 pub mod Pieces
 pub mod RawImages
 pub mod SessionEnds
+pub mod StoreRuns
 pub mod AnswerCauses
 pub mod WordLists

@@ -76,6 +76,7 @@ one_of : (c : Command) (text : List ℕ) (a b : Option TopFault) → Ends c text
 one_of (commands.Replay raw) text a b this that = sym this ∙ that
 one_of commands.Show text a b this that = sym this ∙ that
 one_of (commands.Widen raw) text a b this that = sym this ∙ that
+one_of commands.Kv text a b this that = sym this ∙ that
 one_of commands.Check text a b this that = one_by (whole_blocks text) a b (ends_by (whole_blocks text) a this) (ends_by (whole_blocks text) b that)
 
 one_as : (long : Bool) (c : Command) (text : List ℕ) (a b : Option TopFault) → ExpectsAs long c text a → ExpectsAs long c text b → a ≡ b

@@ -42,7 +42,8 @@ named w c h =
     (λ h. link w (codes "show") commands.Show c _ (λ d. AskFor (w ∷ []) (tasks.Read d)) h (λ is. subst (λ v. AskFor (v ∷ []) (tasks.Read commands.Show)) (sym is) AskFor.show)
     (λ h. link w (codes "widen") (commands.Widen false) c _ (λ d. AskFor (w ∷ []) (tasks.Read d)) h (λ is. subst (λ v. AskFor (v ∷ []) (tasks.Read (commands.Widen false))) (sym is) AskFor.widen)
     (λ h. link w (codes "check") commands.Check c _ (λ d. AskFor (w ∷ []) (tasks.Read d)) h (λ is. subst (λ v. AskFor (v ∷ []) (tasks.Read commands.Check)) (sym is) AskFor.check)
-    (λ h. absurd (none-some c h)))))
+    (λ h. link w (codes "kv") commands.Kv c _ (λ d. AskFor (w ∷ []) (tasks.Read d)) h (λ is. subst (λ v. AskFor (v ∷ []) (tasks.Read commands.Kv)) (sym is) AskFor.kv)
+    (λ h. absurd (none-some c h))))))
 
 raw_named : (w : List ℕ) (c : Command) → raw_named_by w ≡ Some c → AskFor (w ∷ codes "--raw" ∷ []) (tasks.Read c)
 raw_named w c h =
@@ -162,6 +163,7 @@ asked words t AskFor.show = refl
 asked words t AskFor.widen = refl
 asked words t AskFor.raw_widen = refl
 asked words t AskFor.check = refl
+asked words t AskFor.kv = refl
 asked words t (AskFor.bulk n some most) = rw (numeral-decimal n (omega (arith, most)), lt-ltb 0 n some, le-leb n MOST_GENERATED most) refl
 asked words t (AskFor.make s is) =
     let first = is.most_inodes in

@@ -6,5 +6,7 @@ pub mod Widen
 pub mod Check
 pub mod Sessions
 pub mod Bulk
+pub mod Stores
 pub mod Top
 pub mod Promise
+pub mod KeptPuts

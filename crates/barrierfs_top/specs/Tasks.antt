@@ -21,6 +21,7 @@ command_named_by w =
     else if bytes_eq w (codes "show") then Some commands.Show
     else if bytes_eq w (codes "widen") then Some (commands.Widen false)
     else if bytes_eq w (codes "check") then Some commands.Check
+    else if bytes_eq w (codes "kv") then Some commands.Kv
     else None
 
 -- a command that writes an image in place of a text, where `--raw` stands behind its word
@@ -39,6 +40,7 @@ most_of (commands.Replay raw) = MOST_SCRIPT_BYTES
 most_of commands.Show = MOST_IMAGE_BYTES
 most_of (commands.Widen raw) = MOST_IMAGE_BYTES
 most_of commands.Check = MOST_IMAGE_BYTES
+most_of commands.Kv = MOST_SCRIPT_BYTES
 
 -- an image can be made: of 1 to `MOST_NUMBERED` inodes, as many blocks, which leave a zone of data, and `LEAST_JOURNAL` to
 -- `MOST_JOURNAL` blocks of journal

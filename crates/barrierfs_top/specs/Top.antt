@@ -19,6 +19,7 @@ use Rattle.barrierfs_top.specs.Show.{shown}
 use Rattle.barrierfs_top.specs.Widen.{IsWidened, widen_fault}
 use Rattle.barrierfs_top.specs.Check.{IsChecked}
 use Rattle.barrierfs_top.specs.Bulk.{IsWorkload}
+use Rattle.barrierfs_top.specs.Stores.{IsStoreRun}
 use Rattle.barrierfs_top.specs.declared.fault.TopFault.{TopFault}
 use Rattle.barrierfs_top.specs.declared.fault.TopFault.TheVariants as faults
 use Rattle.script_grammar.specs.declared.script.Script.{Script}
@@ -29,6 +30,7 @@ use Rattle.blk_base.specs.declared.reading.ReadEnd.TheVariants as ends
 use Rattle.stack_core.specs.declared.report.Report.{Report}
 use Rattle.script_grammar.specs.Grammar.{script_of}
 use Rattle.session_grammar.specs.Grammar.{session_of}
+use Rattle.store_grammar.specs.Grammar.{store_of}
 use Rattle.barrierfs_top.specs.declared.run_report.RunReport.{RunReport}
 use Rattle.barrierfs_top.specs.declared.run_report.RunReport.TheVariants as reports
 use Rattle.barrierfs_top.specs.Sessions.{is_session, IsSessionReplay, IsImageReplay}
@@ -99,12 +101,13 @@ abbrev pub IsMade : Sizes → Option RunReport → List ℕ → Type 0
 IsMade s report bytes = (bytes ≡ concat (made_image (geometry_made s.inodes s.zones DEFAULT_WIDTH) s.journal false)) × (report ≡ None)
 
 -- `show`: the text is that of the tree that the image has once its journal was recovered; `widen`: it is that of the widened
--- image, or the bytes are those of this image; `check`: the image is clean, and the text says so
+-- image, or the bytes are those of this image; `check`: the image is clean, and the text says so; `kv`: it is that of a store's session
 abbrev pub Makes : Command → List ℕ → Option RunReport → List ℕ → Type 0
 Makes (commands.Replay raw) input report text = IsReplay raw input report text
 Makes commands.Show input report text = (shown (whole_blocks input) ≡ Ok text) × (report ≡ None)
 Makes (commands.Widen raw) input report text = IsWidened raw (whole_blocks input) text × (report ≡ None)
 Makes commands.Check input report text = IsChecked (whole_blocks input) None × (text ≡ codes "clean\n") × (report ≡ None)
+Makes commands.Kv input report text = IsStoreRun input report text
 
 -- the first faulty line of a text that is no script, with its kind
 abbrev pub script_fault : {S : Type 0} → Result S (ℕ × ScriptKind) → Option TopFault
@@ -127,6 +130,7 @@ Ends (commands.Replay raw) input end = fault_as (raw || is_session input) input 
 Ends commands.Show input end = image_fault (shown (whole_blocks input)) ≡ end
 Ends (commands.Widen raw) input end = widen_fault raw (whole_blocks input) ≡ end
 Ends commands.Check input end = IsChecked (whole_blocks input) end
+Ends commands.Kv input end = script_fault (store_of input) ≡ end
 
 -- this is the fault of the input; want of memory is free
 abbrev pub IsInputFault : Command → List ℕ → TopFault → Type 0

@@ -26,5 +26,6 @@ pub data AskFor : List (List ℕ) → Task → Type 0 where
   widen : AskFor (codes "widen" ∷ []) (tasks.Read (commands.Widen false))
   raw_widen : AskFor (codes "widen" ∷ codes "--raw" ∷ []) (tasks.Read (commands.Widen true))
   check : AskFor (codes "check" ∷ []) (tasks.Read commands.Check)
+  kv : AskFor (codes "kv" ∷ []) (tasks.Read commands.Kv)
   bulk : (n : ℕ) → 0 < n → n ≤ MOST_GENERATED → AskFor (codes "bulk" ∷ decimal n ∷ []) (tasks.Bulk n)
   make : (s : Sizes) → AreSizes s → AskFor (codes "make" ∷ decimal s.inodes ∷ decimal s.zones ∷ decimal s.journal ∷ []) (tasks.Make s)

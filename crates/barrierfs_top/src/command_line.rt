@@ -22,6 +22,8 @@ pub enum Command {
     Widen { raw: bool },
     /// Tells whether the maps, links and dots of an image agree with its tree.
     Check,
+    /// Runs the script of a key-value store and prints what its log holds.
+    Kv,
 }
 
 impl Command {
@@ -30,7 +32,7 @@ impl Command {
         ensures { result ≡ most_of self }
     {
         match self {
-            Command::Replay { .. } => MOST_SCRIPT_BYTES as u64,
+            Command::Replay { .. } | Command::Kv => MOST_SCRIPT_BYTES as u64,
             Command::Show | Command::Widen { .. } | Command::Check => MOST_IMAGE_BYTES,
         }
     }
@@ -120,6 +122,7 @@ fn command_named(word: &str) -> Option<Command>
         "show" => Some(Command::Show),
         "widen" => Some(Command::Widen { raw: false }),
         "check" => Some(Command::Check),
+        "kv" => Some(Command::Kv),
         _ => None,
     }
 }

@@ -3,6 +3,7 @@ ghost use Rattle.std.specs.Prelude.{◌≡◌, ◌⊎◌, ℕ, false, List, Opti
 ghost use Rattle.std.specs.Process.{exit_status};
 ghost use Rattle.blk_base.specs.Streams.{Rose};
 ghost use Rattle.barrierfs_top.specs.Promise.{WentOut, TellsRun};
+ghost use Rattle.barrierfs_top.specs.KeptPuts.{TellsStore};
 ghost use Rattle.barrierfs_top.specs.Tasks.{task_of};
 ghost use Rattle.barrierfs_top.specs.Top.{status_of, stream_of, IsUnread, DidSome, Expects, EndsAs, EndsAsExpected};
 ghost use Rattle.barrierfs_top.specs.declared.command_line.Command.{Command};
@@ -56,6 +57,7 @@ pub fn run_words<R: Source, W: Sink>(
     out: &mut W,
 ) -> Ended
     ensures promise { (bytes : List ℕ) → task_of words.now ≡ Some (Task.Read (Command.Replay false)) → WentOut (W.taken out.old) (W.taken out.new) bytes → TellsRun (R.left src.old) (R.left src.new) result.fault bytes }
+    ensures kept_puts { (bytes : List ℕ) → task_of words.now ≡ Some (Task.Read Command.Kv) → WentOut (W.taken out.old) (W.taken out.new) bytes → TellsStore (R.left src.old) (R.left src.new) result.fault bytes }
     ensures status { result.status ≡ status_of result.fault }
     ensures did { DidSome words.now (stream_of R.left R.faults src.old src.new) (stream_of W.taken W.faults out.old out.new) result.reported result.fault }
     ensures words { task_of words.now ≡ None → result.fault ≡ Some TopFault.BadWords }

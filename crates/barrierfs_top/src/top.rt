@@ -5,6 +5,7 @@ ghost use Rattle.barrierfs_top.specs.Tasks.{task_of, CanDo};
 ghost use Rattle.barrierfs_top.specs.Text.{output_bytes};
 ghost use Rattle.barrierfs_top.specs.Top.{status_of, stream_of, IsReplay, IsBlocksReplay, IsBlocksFault, IsMade, IsInputFault, IsUnread, Does, Cause, Did, Expects, EndsAs, EndsAsExpected, top_fault, end_fault};
 ghost use Rattle.barrierfs_top.specs.Promise.{WentOut, TellsRun};
+ghost use Rattle.barrierfs_top.specs.KeptPuts.{TellsStore};
 ghost use Rattle.std.specs.String.{string_bytes};
 ghost use Rattle.barrierfs_top.specs.declared.command_line.Command.{Command};
 ghost use Rattle.barrierfs_top.specs.declared.command_line.Sizes.{Sizes};
@@ -22,6 +23,7 @@ use crate::output::Output;
 use crate::run_report::RunReport;
 use crate::session::{is_session, run_session_image, run_session_text};
 use crate::show::show_text;
+use crate::store::run_store_text;
 use crate::text::put_report;
 use crate::widen::widen_output;
 use blk_base::{Image, ReadEnd, Sink, Source, read_all, read_image};
@@ -234,6 +236,19 @@ fn read_and_check<R: Source>(alloc: Global, src: &mut R) -> Result<Printed, TopF
     }
 }
 
+// Reads a store's script and runs it.
+fn read_and_keep<R: Source>(alloc: Global, src: &mut R) -> Result<Printed, TopFault>
+    ensures ok { (words : List (List ℕ)) → task_of words ≡ Some (Task.Read Command.Kv) →
+        IfOk result (λ p. Does words (stream_of R.left R.faults src.old src.new) p.report (output_bytes p.output)) }
+    ensures err { (words : List (List ℕ)) → task_of words ≡ Some (Task.Read Command.Kv) → IfErr result (Cause words (stream_of R.left R.faults src.old src.new)) }
+    ensures steady { (IsErrOf result TopFault.SourceFault → ⊥) → R.faults src.new ≡ R.faults src.old }
+{
+    match read_all(alloc, src, Command::Kv.most()) {
+        Ok(bytes) => run_store_text(alloc, &bytes),
+        Err(end) => Err(read_fault(end)),
+    }
+}
+
 // All that comes before the first write.
 fn prepare<R: Source>(alloc: Global, words: &Words, src: &mut R) -> Result<Printed, TopFault>
     ensures ok { IfOk result (λ p. Does words.now (stream_of R.left R.faults src.old src.new) p.report (output_bytes p.output)) }
@@ -252,6 +267,7 @@ fn prepare<R: Source>(alloc: Global, words: &Words, src: &mut R) -> Result<Print
         Task::Read(Command::Show) => read_and_show(alloc, src),
         Task::Read(Command::Widen { raw }) => read_and_widen(alloc, src, raw),
         Task::Read(Command::Check) => read_and_check(alloc, src),
+        Task::Read(Command::Kv) => read_and_keep(alloc, src),
         Task::Make(sizes) => make(alloc, sizes),
         Task::Bulk(number) => run_workload(alloc, number),
     }
@@ -262,7 +278,8 @@ fn prepare<R: Source>(alloc: Global, words: &Words, src: &mut R) -> Result<Print
 /// recovery leaves,
 /// `show` reads an image and writes the text of the tree that it has once its journal was recovered, `widen` gives the
 /// image names of 30 bytes and writes the text of the tree that it then has, or with `--raw` its bytes, `check` writes
-/// that the image is clean, or else its verdict is the fault, `make` with the numbers of inodes, blocks of the volume
+/// that the image is clean, or else its verdict is the fault, `kv` reads a store's script of the source, runs it and writes
+/// what its log holds, `make` with the numbers of inodes, blocks of the volume
 /// and blocks of the journal writes a new image, and `bulk` with a number runs the workload that is generated from it
 /// and writes the summary.
 ///
@@ -270,6 +287,7 @@ fn prepare<R: Source>(alloc: Global, words: &Words, src: &mut R) -> Result<Print
 /// before the first write.
 pub fn alone<R: Source, W: Sink>(alloc: Global, words: &Words, src: &mut R, out: &mut W) -> Outcome
     ensures promise { (bytes : List ℕ) → task_of words.now ≡ Some (Task.Read (Command.Replay false)) → WentOut (W.taken out.old) (W.taken out.new) bytes → TellsRun (R.left src.old) (R.left src.new) result.fault bytes }
+    ensures kept_puts { (bytes : List ℕ) → task_of words.now ≡ Some (Task.Read Command.Kv) → WentOut (W.taken out.old) (W.taken out.new) bytes → TellsStore (R.left src.old) (R.left src.new) result.fault bytes }
     ensures status { result.status ≡ status_of result.fault }
     ensures did { Did words.now (stream_of R.left R.faults src.old src.new) (stream_of W.taken W.faults out.old out.new) result.report result.fault }
     ensures words { task_of words.now ≡ None → result.fault ≡ Some TopFault.BadWords }

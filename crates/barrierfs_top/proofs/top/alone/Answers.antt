@@ -5,6 +5,7 @@ use Rattle.barrierfs_top.specs.Top.{stream_of}
 use Rattle.barrierfs_top.proofs.Ends.{ends_well, ends_early, ends_with, not_well}
 use Rattle.barrierfs_top.proofs.Promised.{none_out, went_out, front_out, promised}
 use Rattle.barrierfs_top.proofs.OneEnd.{same_err}
+use Rattle.barrierfs_top.proofs.StoreRuns.{kept}
 use Rattle.barrierfs_top.proofs.top.alone.Goals as goal
 
 pub returns-in-Err-clause-promise : goal.returns-in-Err-clause-promise
@@ -80,3 +81,25 @@ returns-in-Err-clause-source_steady g c = λ other. c.in-Err.ensures.steady (λ 
 
 pub returns-clause-generated : goal.returns-clause-generated
 returns-clause-generated g c = λ n asked quiet. absurd (quiet c.in-Err-write.ensures.fault)
+
+pub returns-in-Err-clause-kept_puts : goal.returns-in-Err-clause-kept_puts
+returns-in-Err-clause-kept_puts g c = λ bytes asked out. absurd (none_out (g.W.Sink.taken c.args.out.now) bytes out)
+
+pub returns-in-Ok-write-clause-kept_puts : goal.returns-in-Ok-write-clause-kept_puts
+returns-in-Ok-write-clause-kept_puts g c = λ bytes asked out.
+    let source = stream_of g.R.Source.left g.R.Source.faults c.args.src.now c.prepare.new.src in
+    let taken = g.W.Sink.taken c.args.out.now in
+    let taken_after = g.W.Sink.taken c.write.new.out in
+    let appended = c.in-Ok-write.ensures.ok in
+    kept c.args.words.now source c.in-Ok.printed.report (output_bytes c.in-Ok.printed.output) bytes _ c.in-Ok.ensures.ok asked
+    (went_out taken taken_after bytes (output_bytes c.in-Ok.printed.output) out appended)
+
+pub returns-clause-kept_puts : goal.returns-clause-kept_puts
+returns-clause-kept_puts g c = λ bytes asked out.
+    let source = stream_of g.R.Source.left g.R.Source.faults c.args.src.now c.prepare.new.src in
+    let taken = g.W.Sink.taken c.args.out.now in
+    let taken_after = g.W.Sink.taken c.write.new.out in
+    let text = output_bytes c.in-Ok.printed.output in
+    let front = c.in-Err-write.ensures.front in
+    kept c.args.words.now source c.in-Ok.printed.report text bytes _ c.in-Ok.ensures.ok asked
+    (front_out taken taken_after bytes text faults.SinkFault out front)

@@ -36,6 +36,12 @@ returns-in-Read-Check-clause-ok g c = c.read_and_check.ensures.ok c.args.words.n
 pub returns-in-Read-Check-clause-err : goal.returns-in-Read-Check-clause-err
 returns-in-Read-Check-clause-err g c = c.read_and_check.ensures.err c.args.words.now (sym c.task.ensures.value ∙ (c.in-Some.is ∙ ap Some (c.in-Read-Check.is ∙ ap tasks.Read (rw c.in-Read-Check.is at c.in-Read-Check.field-0-is))))
 
+pub returns-in-Read-Kv-clause-ok : goal.returns-in-Read-Kv-clause-ok
+returns-in-Read-Kv-clause-ok g c = c.read_and_keep.ensures.ok c.args.words.now (sym c.task.ensures.value ∙ (c.in-Some.is ∙ ap Some (c.in-Read-Kv.is ∙ ap tasks.Read (rw c.in-Read-Kv.is at c.in-Read-Kv.field-0-is))))
+
+pub returns-in-Read-Kv-clause-err : goal.returns-in-Read-Kv-clause-err
+returns-in-Read-Kv-clause-err g c = c.read_and_keep.ensures.err c.args.words.now (sym c.task.ensures.value ∙ (c.in-Some.is ∙ ap Some (c.in-Read-Kv.is ∙ ap tasks.Read (rw c.in-Read-Kv.is at c.in-Read-Kv.field-0-is))))
+
 pub returns-in-Bulk-clause-ok : goal.returns-in-Bulk-clause-ok
 returns-in-Bulk-clause-ok g c =
     ran_if c.args.words.now (stream_of g.R.Source.left g.R.Source.faults c.args.src.now c.args.src.now) c.in-Bulk.number c.run_workload.result
