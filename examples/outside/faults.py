@@ -189,9 +189,14 @@ def lines_of(text):
 
 def report(text):
     """What the program says of the first line that is wrong, or none. A character stands for a byte."""
+    return first_fault(Reader(), text)
+
+
+def first_fault(reader, text):
+    """The same, of a script that this one reads."""
     if len(text) > MOST_BYTES:
         return "barrierfs: input too long\n"
-    reader, lines = Reader(), lines_of(text)
+    lines = lines_of(text)
     for number, line in enumerate(lines, 1):
         try:
             if line and line[0] != "#":

@@ -43,11 +43,15 @@ def limit_script(rng):
 
 def mutated_script(seed):
     """The script of this seed, changed in a place or some."""
-    rng, lines = random.Random(seed), whole_script(seed // MUTATIONS).split("\n")
+    return "\n".join(mutated_lines(random.Random(seed), whole_script(seed // MUTATIONS).split("\n")))
+
+
+def mutated_lines(rng, lines):
+    """The lines of a script, changed in a place or some."""
     for _ in range(rng.choice([1, 1, 1, 2, 3, 5])):
         change = rng.choice([drop, double, swap, number, number, number, word, word, byte, byte, end])
         lines = change(rng, lines)
-    return "\n".join(lines)
+    return lines
 
 
 def drop(rng, lines):

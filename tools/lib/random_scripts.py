@@ -18,6 +18,7 @@ import host  # noqa: E402
 import images  # noqa: E402
 import mutated_scripts  # noqa: E402
 import random_images  # noqa: E402
+import stores  # noqa: E402
 
 
 def repeated(rng, line, most):
@@ -325,6 +326,37 @@ def crowd_of_names(rng):
     return [*calls, "sync"], [f"round {rng.choice([300, 600, 1500])}", *session_events(rng, 1), "round 300"]
 
 
+KEYS = ["a", "b", "c", "d", "A", "0", "a.b", "a-b", "a_b", "aa", "ab", "k" * 32]
+
+
+def store_script(rng):
+    """A key-value store: some puts and flushes, events in any order or rounds, and most often a power cut."""
+    room = rng.choice([1, 2, 3, 4, 4, 6, 6, 10, 20, 64, 65, 130])
+    keys = rng.sample(KEYS, rng.choice([1, 2, 3, 6]))
+    asked = [f"put {rng.choice(keys)} {stored_value(rng)}" for _ in range(rng.randint(0, min(room, 30)))]
+    for _ in range(rng.choice([0, 1, 1, 2, 5])):
+        asked.insert(rng.randint(0, len(asked)), "flush")
+    steps = 8 + 6 * room + 12 * len(asked)
+    lines = [f"depth {rng.choice(SIZES)}", f"queue {rng.choice(SIZES)}", f"cut {rng.randint(0, steps)}", f"cut {rng.randint(0, steps)}"]
+    script = [f"store {room}", *{line.split(" ")[0]: line for line in header(rng, lines)}.values()]
+    add_failure(rng, script, rng.choice([10, 60, 200]))
+    return [*script, *asked, "events", *store_events(rng, steps), *(recover_line(rng) for _ in range(rng.choice([0, 0, 1, 3])))]
+
+
+def stored_value(rng):
+    return rng.choice([str(rng.randrange(1000)), "x" * rng.choice([1, 199, 200]), "".join(rng.choice("abcXYZ019._-") for _ in range(rng.randint(1, 9)))])
+
+
+def store_events(rng, steps):
+    chosen = rng.random()
+    if chosen < 0.3:
+        return [f"round {steps}"]
+    if chosen < 0.6:
+        return [*slow_rounds(rng), f"round {rng.choice([1, steps])}"]
+    # events in any order do little before the log is filled
+    return [f"round {rng.randint(1, steps)}", *session_events(rng, 1), *([f"round {steps}"] if chosen < 0.8 else [])]
+
+
 VOLUME = "volume inodes 4 zones 40 journal 128"
 
 
@@ -431,6 +463,15 @@ def image_fault(words, printed, wanted):
     return None if words == ["widen"] and printed == "barrierfs: no room\n" else difference(printed, wanted)
 
 
+def store_case(rng, _):
+    """A store's script, sometimes changed in some places."""
+    lines = store_script(rng)
+    if rng.random() < 0.2:
+        lines = mutated_scripts.mutated_lines(rng, lines)
+    script = "\n".join(lines) + "\n"
+    return Case(script, lambda printed: stores.broken(script, printed) or difference(printed, stores.fault(script) or report_soon(script) or printed), ["kv"])
+
+
 def mutant_case(_, seed):
     """A script that was changed in some places: its first faulty line, or its report."""
     script = mutated_scripts.mutated_script(seed)
@@ -447,7 +488,7 @@ SOON = 2  # seconds that the second program may take for the report of a script 
 def report_soon(script):
     """The report of a script without a fault, or none where the second program takes long."""
     lines = [line for line in script.split("\n") if line and line[0] != "#"]
-    report = host.report if lines[0].startswith("volume") else blocks.report
+    report = host.report if lines[0].startswith("volume") else stores.report if lines[0].startswith("store") else blocks.report
     before = signal.signal(signal.SIGALRM, late)
     signal.setitimer(signal.ITIMER_REAL, SOON)
     try:
@@ -465,7 +506,7 @@ def late(*_):
 
 CASES = {
     "blocks": blocks_case, "session": session_case, "cut": cut_case, "crowd": crowd_case, "limit": limit_case, "image": image_case,
-    "mutant": mutant_case,
+    "mutant": mutant_case, "store": store_case,
 }
 HOSTILE = ("image", "mutant")  # kinds of inputs of which any bytes may come, and none may take long
 PATIENCE, LATE = 60, 1000  # seconds of a run, and what stands for its status where it takes longer
