@@ -148,13 +148,16 @@ fn as_many_tags_as_are_whole(rt: HostRuntime) {
     }
 }
 
-// Wide tags for blocks 9 and 10, of sequence 7, and the place of the second one's high half.
+// Wide tags for blocks 9 and 10, of sequence 7, and the ends of their high halves. The first one's stands before its
+// uuid.
 const WIDE_TAGS: [u8; 52] = [
     0xC0, 0x3B, 0x39, 0x98, 0, 0, 0, 1, 0, 0, 0, 7, // header
     0, 0, 0, 9, 0, 0, 0, 0, 0, 0, 0, 0, // block, checksum, flags, high half
     0, 0, 0, 0, 0, 0, 0, 0, 0, 0, 0, 0, 0, 0, 0, 0, // uuid
     0, 0, 0, 10, 0, 0, 0, 10, 0, 0, 0, 0, // the same uuid, last
 ];
+
+const FIRST_HIGH_HALF: usize = 23;
 
 const HIGH_HALF: usize = 51;
 
@@ -171,11 +174,21 @@ fn descriptor_with_wide_tags(rt: HostRuntime) {
         tags_of(&rt, rt.alloc(), &block, true).as_slice(),
         &tags[..]
     );
+    block.set(FIRST_HIGH_HALF, 1);
     block.set(HIGH_HALF, 1);
-    let read = tags_of(&rt, rt.alloc(), &block, true);
+    let high = [
+        Tag {
+            block: 0x1_0000_0009,
+            ..nine
+        },
+        Tag {
+            block: 0x1_0000_000A,
+            ..nine
+        },
+    ];
     assert_eq!(rt;
-        read.as_slice().get(1).map(|t| t.block),
-        Some(0x1_0000_000A)
+        tags_of(&rt, rt.alloc(), &block, true).as_slice(),
+        &high[..]
     );
 }
 
