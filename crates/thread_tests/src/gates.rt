@@ -1,0 +1,65 @@
+//! Gates of the tests.
+use stack_run::Gate;
+use std::sync::atomic::{AtomicBool, Ordering};
+use std::thread;
+
+/// Lets every worker pass.
+pub struct Open;
+
+impl Gate for Open {
+    fn pass(&self, _who: u32, _turn: u64) -> bool {
+        true
+    }
+}
+
+/// Lets every worker pass; the first caller and the transfer loop each wait for the other before their first event.
+#[derive(Drop)]
+pub struct Meeting {
+    caller: AtomicBool,
+    transfers: AtomicBool,
+    caller_saw: AtomicBool,
+    transfers_saw: AtomicBool,
+}
+
+impl Meeting {
+    pub fn new() -> Meeting {
+        Meeting {
+            caller: AtomicBool::new(false),
+            transfers: AtomicBool::new(false),
+            caller_saw: AtomicBool::new(false),
+            transfers_saw: AtomicBool::new(false),
+        }
+    }
+
+    /// Whether each saw the other, which it does where both run at once.
+    pub fn have_met(&self) -> bool {
+        self.caller_saw.load(Ordering::SeqCst) && self.transfers_saw.load(Ordering::SeqCst)
+    }
+}
+
+// Whether the flag goes up before so many turns are over.
+fn goes_up(flag: &AtomicBool) -> bool {
+    for _ in 0..1_000_000 {
+        if flag.load(Ordering::SeqCst) {
+            return true;
+        }
+        thread::yield_now();
+    }
+    false
+}
+
+impl Gate for Meeting {
+    fn pass(&self, who: u32, turn: u64) -> bool {
+        if who == 1 && turn == 0 {
+            self.caller.store(true, Ordering::SeqCst);
+            self.caller_saw
+                .store(goes_up(&self.transfers), Ordering::SeqCst);
+        }
+        if who == 105 && turn == 0 {
+            self.transfers.store(true, Ordering::SeqCst);
+            self.transfers_saw
+                .store(goes_up(&self.caller), Ordering::SeqCst);
+        }
+        true
+    }
+}
