@@ -77,6 +77,42 @@ fn names_come_and_go(rt: HostRuntime) -> Result<(), Fail> {
     Ok(())
 }
 
+// Seventy slots in use, under names of one byte, which lead to inodes of their numbers.
+fn seventy(rt: &impl Abort, alloc: Global) -> Slots {
+    let mut slots = Slots::new(alloc);
+    for byte in 1..=70 {
+        let name = Name::of(&[byte]).expect(rt, "no name");
+        let _ = add(&mut slots, byte.into(), &name);
+    }
+    slots
+}
+
+// A directory of so many slots gets an index of its names with the first that goes.
+#[test]
+fn names_of_a_long_directory_come_and_go(rt: HostRuntime) {
+    let mut slots = seventy(&rt, rt.alloc());
+    let first = Name::of(&[3]).expect(&rt, "no name");
+    let last = Name::of(&[70]).expect(&rt, "no name");
+    let new = Name::of(&[71]).expect(&rt, "no name");
+    let before = seen(&slots, &first, &last);
+    let gone = slots.remove(&last).is_some();
+    let none = slots.remove(&last).is_none();
+    let without = seen(&slots, &first, &last);
+    let also = slots.remove(&first).is_some();
+    slots.lead(41, 9);
+    let place = add(&mut slots, 71, &new);
+    assert_eq!(rt; (gone, none, also, place), (true, true, true, Some(2)));
+    assert_eq!(rt;
+        [before, without, seen(&slots, &first, &new)],
+        [
+            (70, 70, Some(2), Some(69)),
+            (70, 69, Some(2), None),
+            (70, 69, None, Some(2))
+        ]
+    );
+    assert_eq!(rt; (inode_at(&slots, 2), inode_at(&slots, 41)), (71, 9));
+}
+
 #[test]
 fn a_reserved_slot_is_used_or_undone(rt: HostRuntime) -> Result<(), Fail> {
     let a = Name::of(b"a").ok_or("no name")?;

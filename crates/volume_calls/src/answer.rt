@@ -119,9 +119,19 @@ impl PlainVolume {
         ensures { (n : ℕ) → AreBornBefore n (tree_of_now self.now) →
             Answers result (outcome (room_of self.now.geometry) (tree_of_now self.now) n call.now) }
     {
+        let (answer, _) = self.asked(call);
+        answer
+    }
+
+    /// What `reply` and `needs` tell of a call, with its paths walked once.
+    pub fn asked(&self, call: &Call) -> (Answer, u32)
+        ensures answer { (n : ℕ) → AreBornBefore n (tree_of_now self.now) →
+            Answers result.0 (outcome (room_of self.now.geometry) (tree_of_now self.now) n call.now) }
+        ensures zones { (n : ℕ) → AreBornBefore n (tree_of_now self.now) → result.1 ≡ needs (tree_of_now self.now) n call.now }
+    {
         match self.asks(call) {
-            Ok(wants) => self.if_room(wants),
-            Err(reply) => Answer::Refused(reply),
+            Ok(wants) => (self.if_room(wants), wants.zones),
+            Err(reply) => (Answer::Refused(reply), 0),
         }
     }
 }

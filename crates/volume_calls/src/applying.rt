@@ -329,20 +329,34 @@ impl PlainVolume {
         ensures done { IfOk result (λ x. record { change = record { volume = self.new; touched = x.1.touched }; reply = x.0 } ≡ called self.old n tx call.now) }
         ensures memory { OnErr result (self.new ≡ self.old) }
     {
-        if leaves_tree(call) {
-            let reply = self.ask(alloc, call)?;
-            let touched = Touched::with_room(alloc, 0)?;
-            return Ok((reply, touched));
-        }
         match self.reply(call) {
             Answer::Refused(reply) => {
                 let touched = Touched::with_room(alloc, 0)?;
                 Ok((reply, touched))
             }
-            Answer::Change => {
-                let touched = self.change(alloc, n, tx, call)?;
-                Ok((Reply::Ok, touched))
-            }
+            Answer::Change => self.perform(alloc, n, tx, call),
         }
+    }
+
+    /// `apply` for a call that nothing refuses, as `asked` told: it is not asked again.
+    pub fn perform(
+        &mut self,
+        alloc: Global,
+        n: u64,
+        tx: u32,
+        call: &Call,
+    ) -> Result<(Reply, Touched), NoMemory>
+        requires room { FindsRoom self.old n call.now }
+        requires may { IsOk (outcome (room_of self.old.geometry) (tree_of_now self.old) n call.now) }
+        ensures done { IfOk result (λ x. record { change = record { volume = self.new; touched = x.1.touched }; reply = x.0 } ≡ called self.old n tx call.now) }
+        ensures memory { OnErr result (self.new ≡ self.old) }
+    {
+        if leaves_tree(call) {
+            let reply = self.ask(alloc, call)?;
+            let touched = Touched::with_room(alloc, 0)?;
+            return Ok((reply, touched));
+        }
+        let touched = self.change(alloc, n, tx, call)?;
+        Ok((Reply::Ok, touched))
     }
 }

@@ -1,12 +1,11 @@
 //! The slots of a directory, beside its names.
-ghost use Rattle.std.specs.Prelude.{◌≡◌, ◌≤◌, ◌==◌, ◌+◌, List, ℕ, None, is_some, length};
-ghost use Rattle.minix_tables.specs.directories.Slots.{slot_at, used_count};
+ghost use Rattle.std.specs.Prelude.{◌≡◌, ◌≤◌, ◌==◌, ◌+◌, List, ℕ, None, length};
+ghost use Rattle.minix_tables.specs.directories.Slots.{used_count};
 ghost use Rattle.tree_model.specs.Calls.{needs_slot, is_full, directory_zones, one_if, slots_with};
 ghost use Rattle.tree_model.specs.Maps.{at_name};
 ghost use Rattle.volume_model.specs.Trees.{directory_from};
 
 use minix_layout::{most_slots, slots_a_block};
-use minix_tables::directories::Slots;
 use volume_model::DirectoryPart;
 
 // No slot is free for one name more.
@@ -27,27 +26,9 @@ pub fn is_full(directory: &DirectoryPart) -> bool
 
 // It has no names but for `.` and `..`.
 pub fn has_no_names(directory: &DirectoryPart) -> bool
-    requires { used_count directory.now.slots ≡ 2 + length directory.now.names }
     ensures { result ≡ (length directory.now.names == 0) }
 {
-    used_count(&directory.slots) == 2
-}
-
-// How many slots are in use.
-fn used_count(slots: &Slots) -> usize
-    ensures { result ≡ used_count slots.now }
-{
-    let mut used = 0;
-    for at in 0..slots.len() {
-        used += one_if(is_used(slots, at)) as usize;
-    }
-    used
-}
-
-fn is_used(slots: &Slots, at: usize) -> bool
-    ensures { result ≡ is_some (slot_at slots.now at) }
-{
-    slots.get(at).is_some()
+    directory.names.len() == 0
 }
 
 pub fn one_if(test: bool) -> u32

@@ -4,3 +4,4 @@ pub mod Found
 pub mod Edited
 pub mod Led
 pub mod FirstFree
+pub mod Told

@@ -4,6 +4,7 @@ ghost use Rattle.std.specs.Option.{option_copied};
 ghost use Rattle.minix_layout.specs.declared.slot.Slot.{Slot};
 ghost use Rattle.minix_tables.specs.directories.Slots.{room, with_slot, reserved, slot_at, has_name, place_of, slot_found, slots_without, slots_led};
 
+use super::index::{Index, forget, note};
 use blk_base::NoMemory;
 use minix_layout::{Name, Slot};
 use std::alloc::Global;
@@ -15,7 +16,12 @@ pub struct Slots {
     items: Vec<Option<Slot>>,
     // The place of the first free slot, or how many there are: a name that comes looks for none.
     first_free: usize,
+    // Where the names of a long directory stand, once one of them was taken out. Else a name is searched for.
+    index: Option<Index>,
 }
+
+// A directory with more slots gets an index when a name is taken out.
+const FEW: usize = 64;
 
 impl Model for Slots {
     ghost use Rattle.std.specs.Prelude.{List, Option};
@@ -25,10 +31,11 @@ impl Model for Slots {
 
     ghost use Rattle.std.specs.Prelude.{◌≡◌};
     ghost use Rattle.minix_tables.specs.directories.Slots.{room};
+    ghost use Rattle.minix_tables.specs.directories.Told.{AreTold};
 
     ghost view = { λ s. s.items.items };
 
-    ghost invariant = { λ s. s.first_free ≡ room s.items.items };
+    ghost invariant = { λ s. (s.first_free ≡ room s.items.items) × AreTold s.items.items s.index };
 }
 
 impl Slots {
@@ -39,6 +46,7 @@ impl Slots {
         Slots {
             items: Vec::new(alloc),
             first_free: 0,
+            index: None,
         }
     }
 
@@ -47,7 +55,11 @@ impl Slots {
         ensures { result ≡ items.items }
     {
         let first_free = free_from(&items, 0);
-        Slots { items, first_free }
+        Slots {
+            items,
+            first_free,
+            index: None,
+        }
     }
 
     /// How many slots there are, free ones too.
@@ -68,7 +80,10 @@ impl Slots {
     pub fn find(&self, name: &Name) -> Option<usize>
         ensures { result ≡ place_of self.now name.now }
     {
-        self.items.iter().position(|slot| has_name(slot, name))
+        match &self.index {
+            Some(index) => index.get(name),
+            None => self.items.iter().position(|slot| has_name(slot, name)),
+        }
     }
 
     /// The place that `add` uses: the first free slot, or one more at the end.
@@ -94,39 +109,46 @@ impl Slots {
     pub fn truncate(&mut self, len: usize)
         ensures { self.new ≡ take len self.old }
     {
+        self.index = None;
         self.items.truncate(len);
         if len < self.first_free {
             self.first_free = len;
         }
     }
 
-    /// Puts a slot at the place that `room` gives, and says which. It takes memory only where no slot is free.
-    #[tactic(auto, unfolding(crate::specs::directories::Slots::with_slot))]
+    /// Puts a slot at the place that `room` gives, and says which. It needs memory only where no slot is free.
     pub fn add(&mut self, slot: Slot) -> Result<usize, NoMemory>
         requires { place_of self.old slot.name ≡ None }
         ensures ok { IfOk result (λ at. (at ≡ room self.old) × (self.new ≡ with_slot self.old at slot)) }
         ensures reserved { room self.old < length self.old → IsOk result }
         ensures err { OnErr result (self.new ≡ self.old) }
     {
-        let at = self.room();
-        if at < self.items.len() {
-            self.items[at] = Some(slot);
-            self.first_free = free_from(&self.items, at + 1);
-        } else {
-            self.items.push(Some(slot))?;
-            self.first_free = self.items.len();
-        }
+        let at = self.first_free;
+        let name = slot.name.copy();
+        self.first_free = fill(&mut self.items, at, slot)?;
+        note(&mut self.index, name, at);
         Ok(at)
     }
 
-    /// Takes a name away with its slot, which is free then; the directory keeps its length.
+    // Names that go from a long directory one after the other are searched for only where memory is short.
+    fn make_index(&mut self)
+        ensures { self.new ≡ self.old }
+    {
+        if self.index.is_none() && self.items.len() > FEW {
+            self.index = Index::of(&self.items);
+        }
+    }
+
+    /// Takes a name away with its slot, which is free then; the directory keeps its length. It needs no memory.
     pub fn remove(&mut self, name: &Name) -> Option<Slot>
         ensures value { result ≡ slot_found self.old (place_of self.old name.now) }
         ensures none { (result ≡ None) ↔ (place_of self.old name.now ≡ None) }
         ensures slots { self.new ≡ slots_without self.old name.now }
     {
+        self.make_index();
         let at = self.find(name)?;
         let slot = self.items[at].take();
+        forget(&mut self.index, name);
         if at < self.first_free {
             self.first_free = at;
         }
@@ -144,6 +166,23 @@ impl Slots {
             slot.inode = inode;
         }
     }
+}
+
+// A slot comes to the first free place, or to the end. The answer is what is first free then.
+#[tactic(auto, unfolding(crate::specs::directories::Slots::with_slot))]
+fn fill(items: &mut Vec<Option<Slot>>, at: usize, slot: Slot) -> Result<usize, NoMemory>
+    requires { at ≡ room items.old.items }
+    ensures slots { OnOk result (items.new.items ≡ with_slot items.old.items at slot) }
+    ensures room { IfOk result (λ next. next ≡ room items.new.items) }
+    ensures reserved { at < length items.old.items → IsOk result }
+    ensures err { OnErr result (items.new.items ≡ items.old.items) }
+{
+    if at < items.len() {
+        items[at] = Some(slot);
+        return Ok(free_from(items, at + 1));
+    }
+    items.push(Some(slot))?;
+    Ok(items.len())
 }
 
 // The place of the first free slot from one on, or how many there are.

@@ -257,6 +257,20 @@ group_done own first end group holes all far e =
     let zero_left : group_holes own first end group (512 - group) ≡ 0 = ap (group_holes own first end group) none in
     omega arith
 
+-- no group behind the last block is reached
+groups_behind : (own : Place → ℕ) (first end low count : ℕ) → end ≤ 519 + 512 * low → group_holes own first end low count ≡ 0
+unfolding group_holes
+groups_behind own first end low zero far = refl
+groups_behind own first end low (suc count) far =
+    let last : nat_lt (519 + 512 * low) end ≡ false = le-ltb (519 + 512 * low) end far in
+    let here : one_if (is_reached first end low && nat_eq (own (inner low)) 0) ≡ 0 = elim (cases_Bool (nat_lt first (1031 + 512 * low))) [ inl t ↦ rw t (rw last refl) | inr f ↦ rw f refl ] in
+    let turn = group_turn own first end low count in
+    let rest = groups_behind own first end (low + 1) count (omega arith) in
+    omega arith
+
+pub group_stop : (own : Place → ℕ) (first end group holes all : ℕ) → end ≤ 519 + 512 * group → holes + group_holes own first end group (512 - group) ≡ all → holes ≡ all
+group_stop own first end group holes all far e = let none = groups_behind own first end group (512 - group) far in omega arith
+
 pub wanted_is : (own : Place → ℕ) (indices : List ℕ) (off len count blocks named groups : ℕ) → IsRising indices → IsIndexed own indices → count ≢ 0 → range_with_len (off / 1024) count ≡ touched_blocks off len →
     blocks ≡ data_holes own (off / 1024) (off / 1024 + count) → named ≡ named_holes own (off / 1024) (off / 1024 + count) → groups ≡ group_holes own (off / 1024) (off / 1024 + count) 0 512 →
     blocks + named + groups ≡ wanted_zones indices off len

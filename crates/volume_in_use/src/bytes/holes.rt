@@ -59,7 +59,11 @@ fn group_holes(blocks: &Image, inode: &Inode, first: u32, end: u32) -> u32
     ensures few { result ≤ 512 }
 {
     let mut holes = 0;
-    for group in 0..512 {
+    for group in 0_u16..512 {
+        // Neither this group nor one behind it is written.
+        if end <= 519 + 512 * u32::from(group) {
+            return holes;
+        }
         holes += u32::from(lacks_group(blocks, inode, first, end, group));
     }
     holes

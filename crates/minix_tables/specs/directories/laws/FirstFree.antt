@@ -1,6 +1,6 @@
 -- Where the first free slot is after slots changed.
 use Rattle.std.specs.Prelude.{◌≡◌, ℕ, zero, suc, ◌+◌, ◌<◌, ◌≤◌, List, [], ◌∷◌, ◌++◌, length, take, drop, slice_set, Option, Some, None, refl}
-use Rattle.std.proofs.Common.{ap, sym, arith}
+use Rattle.std.proofs.Common.{ap, sym, subst, ◌∙◌, arith}
 use Rattle.std.proofs.lemmas.Option.{none-some}
 use Rattle.minix_layout.specs.declared.slot.Slot.{Slot}
 use Rattle.minix_tables.specs.directories.Slots.{room, slot_at}
@@ -11,6 +11,14 @@ pub room-taken : (slots : List (Option Slot)) (s : Slot) → room slots < length
 room-taken [] s low = absurd (omega arith)
 room-taken (None ∷ slots) s low = omega arith
 room-taken (Some t ∷ slots) s low = (let e = room-taken slots s (omega arith) in omega arith)
+
+pub room-taken_at : (slots : List (Option Slot)) (s : Slot) (at next found : ℕ) → at ≡ room slots → at < length slots → next ≡ at + 1 →
+    found ≡ next + room (drop next (slice_set slots at (Some s))) → found ≡ room (slice_set slots at (Some s))
+room-taken_at slots s at next found e low is told =
+    let from : next ≡ suc (room slots) = omega arith in
+    let inside : room slots < length slots = omega arith in
+    told ∙ (ap (λ k. k + room (drop k (slice_set slots at (Some s)))) from
+    ∙ subst (λ k. suc (room slots) + room (drop (suc (room slots)) (slice_set slots k (Some s))) ≡ room (slice_set slots k (Some s))) (sym e) (room-taken slots s inside))
 
 -- where none is free, a slot in use at the end leaves none free
 pub room-pushed : (slots : List (Option Slot)) (s : Slot) → room slots ≡ length slots → room (slots ++ Some s ∷ []) ≡ suc (room slots)
