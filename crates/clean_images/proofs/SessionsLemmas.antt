@@ -1,5 +1,4 @@
 -- Lemmas on sessions that keep volumes clean.
-pub mod SameClean
 pub mod CleanReads
 pub mod CleanHosts
 pub mod CleanRuns

@@ -1,7 +1,7 @@
 pub mod TakenParts
 pub mod GatheredZones
 pub mod ServedZones
-pub mod Rewritten
+pub mod WidenedBits
 pub mod WideLinks
 pub mod WideClean
 pub mod WidenedClean

@@ -8,6 +8,7 @@ pub mod CutBlocks
 pub mod TruncateBlocks
 pub mod Filling
 pub mod Rising
+pub mod MapRaises
 pub mod MapBlocks
 pub mod WriteBlocks
 pub mod SlotBlocks

@@ -114,7 +114,7 @@ header_line-number numbers.Cut n = refl
 header_line-number numbers.Seed n = refl
 header_line-number numbers.Flash n = refl
 
-is_none : (o : Option ℕ) → is_some o ≡ false → o ≡ None
+pub is_none : (o : Option ℕ) → is_some o ≡ false → o ≡ None
 is_none None h = refl
 is_none (Some n) h = cc
 
@@ -303,7 +303,7 @@ Says-events r lines here is =
       no_recovers = λ _. calm;
     }
 
-SayEvents-push : (es : List EventLine) (ls : List (List (List ℕ))) (e : EventLine) (l : List (List ℕ)) → SayEvents es ls → event_speller.SaysEvent e l → SayEvents (es ++ e ∷ []) (ls ++ l ∷ [])
+pub SayEvents-push : (es : List EventLine) (ls : List (List (List ℕ))) (e : EventLine) (l : List (List ℕ)) → SayEvents es ls → event_speller.SaysEvent e l → SayEvents (es ++ e ∷ []) (ls ++ l ∷ [])
 SayEvents-push [] [] e l say here = (here, tt)
 SayEvents-push [] (m ∷ ls) e l say here = absurd say
 SayEvents-push (d ∷ es) [] e l say here = absurd say
@@ -436,7 +436,7 @@ Says-line_taken r lines line w (word.Event v) ws next h split stands new readabl
 Says-line_taken r lines line w word.Recover ws next h split stands new readable is =
     Says-recover_taken r lines w ws (steers_of ws) next split.named refl h (recover_stands r.section (has_threads r) stands) is
 
-not_stood : {A E : Type 0} (b : Bool) (read : Result A E) (y : A) (e : E) → (if b then Err e else read) ≡ Ok y → b ≡ false
+pub not_stood : {A E : Type 0} (b : Bool) (read : Result A E) (y : A) (e : E) → (if b then Err e else read) ≡ Ok y → b ≡ false
 not_stood true read y e h = cc
 not_stood false read y e h = refl
 

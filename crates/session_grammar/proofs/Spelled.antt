@@ -30,25 +30,25 @@ use Rattle.session_grammar.proofs.Accepts.{session_of-SaysSession}
 -- ---- lines that are written are read again as they are
 
 -- words without spaces and line feeds, which are no comment
-record AreWritten (ls : List (List (List ℕ))) : Type 0 where
-  clear : AreClearLines ls
-  kept : AreKept ls
+pub record AreWritten (ls : List (List (List ℕ))) : Type 0 where
+  pub clear : AreClearLines ls
+  pub kept : AreKept ls
 
-AreWritten-none : AreWritten []
+pub AreWritten-none : AreWritten []
 AreWritten-none = record { clear = tt; kept = tt }
 
-AreWritten-line : (l : List (List ℕ)) (ls : List (List (List ℕ))) → AreClear l → is_skipped (join_with_byte 32 l) ≡ false → AreWritten ls → AreWritten (l ∷ ls)
+pub AreWritten-line : (l : List (List ℕ)) (ls : List (List (List ℕ))) → AreClear l → is_skipped (join_with_byte 32 l) ≡ false → AreWritten ls → AreWritten (l ∷ ls)
 AreWritten-line l ls clear kept are = record { clear = (clear, are.clear); kept = (kept, are.kept) }
 
-AreWritten-append : (ls ms : List (List (List ℕ))) → AreWritten ls → AreWritten ms → AreWritten (ls ++ ms)
+pub AreWritten-append : (ls ms : List (List (List ℕ))) → AreWritten ls → AreWritten ms → AreWritten (ls ++ ms)
 AreWritten-append [] ms first second = second
 AreWritten-append (l ∷ ls) ms first second =
     AreWritten-line l (ls ++ ms) first.clear.0 first.kept.0 (AreWritten-append ls ms (record { clear = first.clear.1; kept = first.kept.1 }) second)
 
-number_written : (name : List ℕ) (n : ℕ) (ls : List (List (List ℕ))) → IsClear name → is_skipped (join_with_byte 32 (number_words name n)) ≡ false → n < 2 ^ 64 → AreWritten ls → AreWritten (number_words name n ∷ ls)
+pub number_written : (name : List ℕ) (n : ℕ) (ls : List (List (List ℕ))) → IsClear name → is_skipped (join_with_byte 32 (number_words name n)) ≡ false → n < 2 ^ 64 → AreWritten ls → AreWritten (number_words name n ∷ ls)
 number_written name n ls clear there lt are = AreWritten-line (number_words name n) ls (clear, (IsClear-decimal n lt, tt)) there are
 
-number_lines_written : (name : List ℕ) (o : Option ℕ) → IsClear name → ((n : ℕ) → is_skipped (join_with_byte 32 (number_words name n)) ≡ false) → ((n : ℕ) → o ≡ Some n → n < 2 ^ 64) → AreWritten (number_lines name o)
+pub number_lines_written : (name : List ℕ) (o : Option ℕ) → IsClear name → ((n : ℕ) → is_skipped (join_with_byte 32 (number_words name n)) ≡ false) → ((n : ℕ) → o ≡ Some n → n < 2 ^ 64) → AreWritten (number_lines name o)
 number_lines_written name None clear there small = AreWritten-none
 number_lines_written name (Some n) clear there small = number_written name n [] clear (there n) (small n refl) AreWritten-none
 
@@ -86,16 +86,16 @@ threads_written (p ∷ ps) t ls few are =
     (AreWritten-append (map words_of (take (length p) ls)) (thread_lines (t + 1) ps (drop (length p) ls)) (calls_written (take (length p) ls) p both.0)
     (threads_written ps (t + 1) (drop (length p) ls) (omega (arith, few)) both.1))
 
-events_written : (es : List EventLine) (threads : ℕ) → ((e : EventLine) → In e es → IsEventOf threads e) → AreWritten (map event_line_words es)
+pub events_written : (es : List EventLine) (threads : ℕ) → ((e : EventLine) → In e es → IsEventOf threads e) → AreWritten (map event_line_words es)
 events_written [] threads are = AreWritten-none
 events_written (e ∷ es) threads are =
     AreWritten-line (event_line_words e) (map event_line_words es) (AreClear-event e (are e (inl refl)).line) (there-event e) (events_written es threads (λ d i. are d (inr i)))
 
-recover_there : (ws : List (List ℕ)) → is_skipped (join_with_byte 32 (codes "recover" ∷ ws)) ≡ false
+pub recover_there : (ws : List (List ℕ)) → is_skipped (join_with_byte 32 (codes "recover" ∷ ws)) ≡ false
 recover_there [] = refl
 recover_there (w ∷ ws) = refl
 
-recovers_written : (rs : List (List Steer)) → ((ss : List Steer) → In ss rs → IsSteerLine ss) → AreWritten (map recover_words rs)
+pub recovers_written : (rs : List (List Steer)) → ((ss : List Steer) → In ss rs → IsSteerLine ss) → AreWritten (map recover_words rs)
 recovers_written [] are = AreWritten-none
 recovers_written (ss ∷ rs) are =
     AreWritten-line (recover_words ss) (map recover_words rs) (record { feed = refl; space = refl }, AreClear-steers ss (are ss (inl refl)).each) (recover_there (steer_words ss)) (recovers_written rs (λ x i. are x (inr i)))
@@ -162,12 +162,12 @@ header_known h l (inr (inr (inr (inr rest)))) =
     ]
 
 -- the lines of a word, where those behind say nothing of it
-alone : (w : List ℕ) (o : Option ℕ) (rest : List (List (List ℕ))) → ((n : ℕ) → begins w (number_words w n) ≡ true) → beginning w rest ≡ [] → beginning w (number_lines w o ++ rest) ≡ number_lines w o
+pub alone : (w : List ℕ) (o : Option ℕ) (rest : List (List (List ℕ))) → ((n : ℕ) → begins w (number_words w n) ≡ true) → beginning w rest ≡ [] → beginning w (number_lines w o ++ rest) ≡ number_lines w o
 alone w None rest itself none = none
 alone w (Some n) rest itself none = beginning-with w (number_words w n) rest (itself n) ∙ ap (λ x. number_words w n ∷ x) none
 
 -- lines of another word say nothing of it
-beside : (w name : List ℕ) (o : Option ℕ) (rest lines : List (List (List ℕ))) → ((n : ℕ) → begins w (number_words name n) ≡ false) → beginning w rest ≡ lines → beginning w (number_lines name o ++ rest) ≡ lines
+pub beside : (w name : List ℕ) (o : Option ℕ) (rest lines : List (List (List ℕ))) → ((n : ℕ) → begins w (number_words name n) ≡ false) → beginning w rest ≡ lines → beginning w (number_lines name o ++ rest) ≡ lines
 beside w name None rest lines other said = said
 beside w name (Some n) rest lines other said = beginning-without w (number_words name n) rest (other n) ∙ said
 
@@ -206,7 +206,7 @@ header_said h = record {
   known = header_known h;
 }
 
-events_said : (es : List EventLine) (threads : ℕ) → ((e : EventLine) → In e es → IsEventOf threads e) → SayEvents es (map event_line_words es)
+pub events_said : (es : List EventLine) (threads : ℕ) → ((e : EventLine) → In e es → IsEventOf threads e) → SayEvents es (map event_line_words es)
 events_said [] threads are = tt
 events_said (e ∷ es) threads are = (SaysEvent-words e (are e (inl refl)).line, events_said es threads (λ d i. are d (inr i)))
 

@@ -1,5 +1,5 @@
 -- The lines of a text that is accepted say its script.
-use Rattle.std.proofs.Common.{◌≡◌, ℕ, ◌+◌, Bool, true, false, ◌&&◌, List, [], ◌∷◌, ◌++◌, length, codes, decimal, map, Option, Some, None, Result, Ok, Err, is_some, nat_le, nat_lt, unwrap_or, refl, sym, ap, ap₂, ◌∙◌, subst, inl, inr, arith, append_assoc, append-nil, if◌then◌else◌}
+use Rattle.std.proofs.Common.{◌≡◌, ℕ, ◌+◌, Bool, true, false, ◌&&◌, List, [], ◌∷◌, ◌++◌, length, codes, decimal, map, Option, Some, None, Result, Ok, Err, is_some, nat_le, nat_lt, unwrap_or, refl, sym, ap, ap₂, ◌∙◌, subst, inl, inr, arith, append_assoc, append-nil}
 use Rattle.std.proofs.lemmas.Bool.{and_parts, leb-true}
 use Rattle.std.proofs.lemmas.List.{map-append}
 use Rattle.std.proofs.lemmas.List.Elements.{filter-append}
@@ -27,6 +27,7 @@ use Rattle.session_grammar.specs.declared.limits.TheConstants.{MOST_CALLS, MOST_
 use Rattle.session_grammar.specs.laws.Accepted.{SayEvents}
 use Rattle.session_grammar.specs.laws.Speller.{number_words, number_lines, recover_words}
 use Rattle.session_grammar.proofs.HeaderRead.{beginning-with, beginning-without}
+use Rattle.session_grammar.proofs.Said.{SayEvents-push, not_stood, is_none}
 use Rattle.wal_store.specs.declared.puts.Put.{Put}
 use Rattle.wal_store.specs.declared.puts.Op.{Op}
 use Rattle.wal_store.specs.declared.puts.Op.TheVariants as ops
@@ -108,10 +109,6 @@ header_line-number header.Depth n = refl
 header_line-number header.Queue n = refl
 header_line-number header.Fail n = refl
 header_line-number header.Cut n = refl
-
-is_none : (o : Option ℕ) → is_some o ≡ false → o ≡ None
-is_none None h = refl
-is_none (Some n) h = cc
 
 says_number : (t : HeaderSoFar) (header : List (List (List ℕ))) (w v : HeaderWord) (n : ℕ) → told_number t w ≡ None → SaysHeader t header
     → beginning (header_name v) (header ++ number_words (header_name w) n ∷ []) ≡ number_lines (header_name v) (told_number (with_number t w n) v)
@@ -258,12 +255,6 @@ Says-events r lines here is =
       no_recovers = λ _. calm;
     }
 
-SayEvents-push : (es : List EventLine) (ls : List (List (List ℕ))) (e : EventLine) (l : List (List ℕ)) → SayEvents es ls → event_speller.SaysEvent e l → SayEvents (es ++ e ∷ []) (ls ++ l ∷ [])
-SayEvents-push [] [] e l say here = (here, tt)
-SayEvents-push [] (m ∷ ls) e l say here = absurd say
-SayEvents-push (d ∷ es) [] e l say here = absurd say
-SayEvents-push (d ∷ es) (m ∷ ls) e l say here = (say.0, SayEvents-push es ls e l say.1 here)
-
 Says-event : (r : Reading) (lines : List (List (List ℕ))) (e : EventLine) (l : List (List ℕ)) → r.section ≡ sections.Events → event_speller.SaysEvent e l → Says r lines → Says (with_event r e) (lines ++ l ∷ [])
 Says-event r lines e l here says is =
     let calm = is.no_recovers (ap is_recovery here) in
@@ -403,10 +394,6 @@ Says-line_taken r lines w word.Flush ws next h name stands new is = Says-flush_l
 Says-line_taken r lines w word.Events ws next h name stands new is = Says-events_line r lines w ws next name h (events_here r.section stands) is
 Says-line_taken r lines w (word.Event v) ws next h name stands new is = Says-event_taken r lines w v ws (event_of v ws) next name refl h (event_here r.section v stands) is
 Says-line_taken r lines w word.Recover ws next h name stands new is = Says-recover_taken r lines w ws (steers_of ws) next name refl h (recover_here r.section stands) is
-
-not_stood : {A E : Type 0} (b : Bool) (read : Result A E) (y : A) (e : E) → (if b then Err e else read) ≡ Ok y → b ≡ false
-not_stood true read y e h = cc
-not_stood false read y e h = refl
 
 Says-later_line : (r : Reading) (lines : List (List (List ℕ))) (w : List ℕ) (o : Option Word) (ws : List (List ℕ)) (next : Reading) → word_of (is_behind_events r.section) w ≡ o → later_line r o ws ≡ Ok next → Says r lines → Says next (lines ++ (w ∷ ws) ∷ [])
 Says-later_line r lines w None ws next known h is = cc

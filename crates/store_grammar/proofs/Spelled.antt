@@ -1,26 +1,18 @@
 -- What is written of a well-formed script says it, and is read back.
-use Rattle.std.proofs.Common.{◌≡◌, ℕ, ◌^◌, ◌<◌, ◌==◌, ◌&&◌, true, false, not, List, [], ◌∷◌, ◌++◌, length, map, codes, nat_le, Option, Some, None, Ok, refl, sym, ap, ◌∙◌, subst, inl, inr, arith}
-use Rattle.std.specs.List.{join_with_byte, list_all}
+use Rattle.std.proofs.Common.{◌≡◌, ℕ, ◌==◌, ◌&&◌, true, false, not, List, [], ◌∷◌, ◌++◌, length, map, codes, nat_le, Option, Some, None, Ok, refl, sym, ap, subst, inl, inr, arith}
+use Rattle.std.specs.List.{list_all}
 use Rattle.std.proofs.lemmas.Bool.{and_parts, and_from}
 use Rattle.std.proofs.lemmas.Bool.Decides.{nat_tests}
 use Rattle.blk_base.specs.Members.{In}
 use Rattle.blk_base.specs.laws.Members.{In-append_cases}
 use Rattle.tree_model.specs.Paths.{is_name_byte}
-use Rattle.script_words.specs.Spelling.{is_skipped}
-use Rattle.script_words.proofs.SpelledNumbers.{IsClear-decimal}
-use Rattle.script_words.proofs.SpelledWords.{IsClear, AreClear, AreClearLines, lacks}
-use Rattle.line_grammar.specs.declared.events.event.EventLine.{EventLine}
-use Rattle.line_grammar.specs.declared.events.steer.Steer.{Steer}
-use Rattle.line_grammar.specs.events.WellFormed.{IsSteerLine}
-use Rattle.line_grammar.specs.events.laws.Speller.{event_line_words, steer_words}
-use Rattle.line_grammar.proofs.EventsLemmas.ClearLines.{AreClear-event, there-event, AreClear-steers}
-use Rattle.line_grammar.proofs.EventsLemmas.EventLaws.{SaysEvent-words}
+use Rattle.script_words.proofs.SpelledWords.{IsClear, lacks}
+use Rattle.line_grammar.specs.events.laws.Speller.{event_line_words}
 use Rattle.script_grammar.specs.laws.Accepted.{begins, beginning}
-use Rattle.session_grammar.specs.laws.Accepted.{SayEvents}
 use Rattle.session_grammar.specs.laws.Speller.{number_words, number_lines, recover_words}
-use Rattle.session_grammar.specs.WellFormed.{IsEventOf}
 use Rattle.session_grammar.proofs.HeaderRead.{beginning-with, beginning-without}
-use Rattle.session_grammar.proofs.ReadsTo.{AreKept, kept_of-text}
+use Rattle.session_grammar.proofs.ReadsTo.{kept_of-text}
+use Rattle.session_grammar.proofs.Spelled.{AreWritten, AreWritten-none, AreWritten-line, AreWritten-append, number_written, number_lines_written, events_written, recovers_written, alone, beside, events_said}
 use Rattle.wal_store.specs.declared.puts.Op.{Op}
 use Rattle.wal_store.specs.declared.puts.Op.TheVariants as ops
 use Rattle.wal_store.specs.Puts.{is_text}
@@ -34,29 +26,6 @@ use Rattle.store_grammar.specs.laws.Accepted.{is_header_line, IsHeaderOf, SaysSt
 use Rattle.store_grammar.proofs.Accepts.{store_of-SaysStore}
 
 -- ---- lines that are written are read again as they are
-
--- words without spaces and line feeds, which are no comment
-record AreWritten (ls : List (List (List ℕ))) : Type 0 where
-  clear : AreClearLines ls
-  kept : AreKept ls
-
-AreWritten-none : AreWritten []
-AreWritten-none = record { clear = tt; kept = tt }
-
-AreWritten-line : (l : List (List ℕ)) (ls : List (List (List ℕ))) → AreClear l → is_skipped (join_with_byte 32 l) ≡ false → AreWritten ls → AreWritten (l ∷ ls)
-AreWritten-line l ls clear kept are = record { clear = (clear, are.clear); kept = (kept, are.kept) }
-
-AreWritten-append : (ls ms : List (List (List ℕ))) → AreWritten ls → AreWritten ms → AreWritten (ls ++ ms)
-AreWritten-append [] ms first second = second
-AreWritten-append (l ∷ ls) ms first second =
-    AreWritten-line l (ls ++ ms) first.clear.0 first.kept.0 (AreWritten-append ls ms (record { clear = first.clear.1; kept = first.kept.1 }) second)
-
-number_written : (name : List ℕ) (n : ℕ) (ls : List (List (List ℕ))) → IsClear name → is_skipped (join_with_byte 32 (number_words name n)) ≡ false → n < 2 ^ 64 → AreWritten ls → AreWritten (number_words name n ∷ ls)
-number_written name n ls clear there lt are = AreWritten-line (number_words name n) ls (clear, (IsClear-decimal n lt, tt)) there are
-
-number_lines_written : (name : List ℕ) (o : Option ℕ) → IsClear name → ((n : ℕ) → is_skipped (join_with_byte 32 (number_words name n)) ≡ false) → ((n : ℕ) → o ≡ Some n → n < 2 ^ 64) → AreWritten (number_lines name o)
-number_lines_written name None clear there small = AreWritten-none
-number_lines_written name (Some n) clear there small = number_written name n [] clear (there n) (small n refl) AreWritten-none
 
 header_written : (h : StoreHeader) → IsHeader h → AreWritten (header_lines h)
 header_written h is =
@@ -96,20 +65,6 @@ ops_written (ops.Flush ∷ xs) are = AreWritten-line (op_words ops.Flush) (map o
 
 -- ---- events and recovery
 
-events_written : (es : List EventLine) → ((e : EventLine) → In e es → IsEventOf 1 e) → AreWritten (map event_line_words es)
-events_written [] are = AreWritten-none
-events_written (e ∷ es) are =
-    AreWritten-line (event_line_words e) (map event_line_words es) (AreClear-event e (are e (inl refl)).line) (there-event e) (events_written es (λ d i. are d (inr i)))
-
-recover_there : (ws : List (List ℕ)) → is_skipped (join_with_byte 32 (codes "recover" ∷ ws)) ≡ false
-recover_there [] = refl
-recover_there (w ∷ ws) = refl
-
-recovers_written : (rs : List (List Steer)) → ((ss : List Steer) → In ss rs → IsSteerLine ss) → AreWritten (map recover_words rs)
-recovers_written [] are = AreWritten-none
-recovers_written (ss ∷ rs) are =
-    AreWritten-line (recover_words ss) (map recover_words rs) (record { feed = refl; space = refl }, AreClear-steers ss (are ss (inl refl)).each) (recover_there (steer_words ss)) (recovers_written rs (λ x i. are x (inr i)))
-
 -- the lines behind the first
 abbrev lines_behind : StoreScript → List (List (List ℕ))
 lines_behind s =
@@ -124,7 +79,7 @@ store_written s well =
     (AreWritten-append (header_lines s.header) _ (header_written s.header well.header)
     (AreWritten-append (map op_words s.ops) _ (ops_written s.ops well.puts)
     (AreWritten-line (codes "events" ∷ []) _ (record { feed = refl; space = refl }, tt) refl
-    (AreWritten-append (map event_line_words s.events) (map recover_words s.recovers) (events_written s.events well.events) (recovers_written s.recovers well.recovers)))))
+    (AreWritten-append (map event_line_words s.events) (map recover_words s.recovers) (events_written s.events 1 well.events) (recovers_written s.recovers well.recovers)))))
 
 -- ---- they say the script
 
@@ -141,16 +96,6 @@ header_known h l (inr (inr rest)) =
       | inl i ↦ number_known (codes "fail") h.fail l (λ n. refl) i
       | inr i ↦ number_known (codes "cut") h.cut l (λ n. refl) i
     ]
-
--- the lines of a word, where those behind say nothing of it
-alone : (w : List ℕ) (o : Option ℕ) (rest : List (List (List ℕ))) → ((n : ℕ) → begins w (number_words w n) ≡ true) → beginning w rest ≡ [] → beginning w (number_lines w o ++ rest) ≡ number_lines w o
-alone w None rest itself none = none
-alone w (Some n) rest itself none = beginning-with w (number_words w n) rest (itself n) ∙ ap (λ x. number_words w n ∷ x) none
-
--- lines of another word say nothing of it
-beside : (w name : List ℕ) (o : Option ℕ) (rest lines : List (List (List ℕ))) → ((n : ℕ) → begins w (number_words name n) ≡ false) → beginning w rest ≡ lines → beginning w (number_lines name o ++ rest) ≡ lines
-beside w name None rest lines other said = said
-beside w name (Some n) rest lines other said = beginning-without w (number_words name n) rest (other n) ∙ said
 
 none_of : (w name : List ℕ) (o : Option ℕ) → ((n : ℕ) → begins w (number_words name n) ≡ false) → beginning w (number_lines name o) ≡ []
 none_of w name None other = refl
@@ -173,17 +118,13 @@ header_said h = record {
   known = header_known h;
 }
 
-events_said : (es : List EventLine) → ((e : EventLine) → In e es → IsEventOf 1 e) → SayEvents es (map event_line_words es)
-events_said [] are = tt
-events_said (e ∷ es) are = (SaysEvent-words e (are e (inl refl)).line, events_said es (λ d i. are d (inr i)))
-
 SaysStore-written : (s : StoreScript) → IsWellFormed s → SaysStore s (store_words s.room ∷ lines_behind s)
 SaysStore-written s well = record {
   header = header_lines s.header;
   events = map event_line_words s.events;
   whole = refl;
   headed = header_said s.header;
-  said = events_said s.events well.events;
+  said = events_said s.events 1 well.events;
 }
 
 -- the law: a well-formed script is read back

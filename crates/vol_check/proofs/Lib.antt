@@ -7,4 +7,5 @@ pub mod Counts
 pub mod Firsts
 pub mod Volumes
 pub mod CleanTrees
+pub mod SameClean
 pub mod SameMetadata

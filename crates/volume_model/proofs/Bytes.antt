@@ -22,7 +22,7 @@ bytes_take (suc n) [] h k = h k
 bytes_take (suc n) (x ∷ xs) h zero = h 0
 bytes_take (suc n) (x ∷ xs) h (suc k) = bytes_take n xs (λ k. h (suc k)) k
 
-number_fits : (n at : ℕ) (xs : List ℕ) → AreBytes xs → number_at little n at xs < 256 ^ n
+pub number_fits : (n at : ℕ) (xs : List ℕ) → AreBytes xs → number_at little n at xs < 256 ^ n
 unfolding number_at number_of
 number_fits n at xs h = little_from-lt 0 n (drop at xs) (bytes_drop at xs h)
 

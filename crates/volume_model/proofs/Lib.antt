@@ -4,11 +4,11 @@ pub mod Nodes
 pub mod SameTrees
 pub mod Images
 mod UsedSlots
-mod Bytes
+pub mod Bytes
 pub mod ImageSlots
 mod FromImages
 mod MovedSums
 pub mod NewVolumes
 pub mod FoundNodes
-mod ToldBlocks
+pub mod ToldBlocks
 pub mod EditingLemmas

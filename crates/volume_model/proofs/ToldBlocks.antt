@@ -62,7 +62,7 @@ length_take zero xs low = refl
 length_take (suc n) [] low = absurd (omega arith)
 length_take (suc n) (x ∷ xs) low = ap suc (length_take n xs (omega arith))
 
-none_left : (at : ℕ) (body : List ℕ) → length body ≡ 1024 → at ≤ 512 → list_any (λ x. not (nat_eq x 0)) (drop (2 * at) (put_bytes (2 * at) (zeros (1024 - 2 * at)) body)) ≡ false
+pub none_left : (at : ℕ) (body : List ℕ) → length body ≡ 1024 → at ≤ 512 → list_any (λ x. not (nat_eq x 0)) (drop (2 * at) (put_bytes (2 * at) (zeros (1024 - 2 * at)) body)) ≡ false
 unfolding put_bytes
 none_left at body size low =
     let long = length-zeros (1024 - 2 * at) in

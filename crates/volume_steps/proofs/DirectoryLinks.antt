@@ -1,5 +1,5 @@
 -- The links of directories, over what calls make of a tree.
-use Rattle.std.specs.Prelude.{◌≡◌, ◌≢◌, ◌+◌, ℕ, Bool, true, cond, List, [], ◌∷◌, is_some, Option, Some, None, option_map, unwrap_or, refl, count_by}
+use Rattle.std.specs.Prelude.{◌≡◌, ◌≢◌, ◌+◌, ℕ, true, cond, List, [], ◌∷◌, is_some, Option, Some, None, option_map, unwrap_or, refl, count_by}
 use Rattle.std.specs.List.{sum_by}
 use Rattle.std.specs.Map.{keys_of, values_of}
 use Rattle.std.specs.BTreeMap.{is_at}
@@ -10,6 +10,7 @@ use Rattle.std.proofs.lemmas.List.Sums.{sum_by-cons}
 use Rattle.std.proofs.lemmas.Map.Entries.{sum_by-insert_entry, sum_by-remove_entry}
 use Rattle.std.proofs.lemmas.Option.{same_Some, none-some}
 use Rattle.blk_base.specs.Members.{In}
+use Rattle.tree_model.proofs.NamedNodes.{links_same}
 use Rattle.tree_model.specs.declared.node.Node.{Node}
 use Rattle.tree_model.specs.declared.node.Node.TheVariants as nodes
 use Rattle.tree_model.specs.declared.node.Directory.{Directory}
@@ -58,20 +59,6 @@ over_values tree (e ∷ es) =
     let two = sum_by-cons (weigh tree) e.1 (values_of es) in
     let rest = over_values tree es in
     omega arith
-
-count_same : (tree u : Tree) (names : List (List ℕ × ℕ)) → ((e : List ℕ × ℕ) → In e names → is_directory (at_number u e.1) ≡ is_directory (at_number tree e.1)) →
-    count_by (λ e. is_directory (at_number u e.1)) names ≡ count_by (λ e. is_directory (at_number tree e.1)) names
-count_same tree u [] same = refl
-count_same tree u (e ∷ es) same =
-    let one = sum_by-cons (λ (e : List ℕ × ℕ). cond (is_directory (at_number u e.1)) 1 0) e es in
-    let two = sum_by-cons (λ (e : List ℕ × ℕ). cond (is_directory (at_number tree e.1)) 1 0) e es in
-    let rest = count_same tree u es (λ x i. same x (inr i)) in
-    let here : ◌≡◌ {A = ℕ} (cond {A = ℕ} (is_directory (at_number u e.1)) 1 0) (cond {A = ℕ} (is_directory (at_number tree e.1)) 1 0) = ap (λ (b : Bool). cond {A = ℕ} b 1 0) (same e (inl refl)) in
-    omega arith
-
--- where the same of its names lead to directories, it has the same links
-pub links_same : (tree u : Tree) (d : Directory) → ((e : List ℕ × ℕ) → In e d.names → is_directory (at_number u e.1) ≡ is_directory (at_number tree e.1)) → directory_links u d ≡ directory_links tree d
-links_same tree u d same = ap (λ k. 2 + k) (count_same tree u d.names same)
 
 -- one name more
 pub links_put_name : (u : Tree) (parent width slots more : ℕ) (names : List (List ℕ × ℕ)) (name : List ℕ) (birth : ℕ) → NamesInOrder names → at_name names name ≡ None →

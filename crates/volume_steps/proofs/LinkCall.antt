@@ -30,7 +30,8 @@ use Rattle.volume_steps.proofs.AddNames.{name_comes, name_frees}
 use Rattle.volume_steps.proofs.QuietSteps.{linked, linked_steady, linked_file, linked_settled, linked_slotted, set_links_is, linked_numbers}
 use Rattle.volume_steps.proofs.StepsTo.{StepsTo, joined, steps_then, links_at}
 use Rattle.volume_steps.proofs.CallPaths.{good_no_dot, entry_at, done_row, at_place_is, at_path_is}
-use Rattle.volume_steps.proofs.DirectoryLinks.{AreLinked, linked_before, links_same, links_put_name, weigh}
+use Rattle.tree_model.proofs.NamedNodes.{links_same}
+use Rattle.volume_steps.proofs.DirectoryLinks.{AreLinked, linked_before, links_put_name, weigh}
 use Rattle.volume_steps.proofs.PlainNow.{tree_is_plain, settled_before, slotted_before}
 use Rattle.volume_steps.proofs.CallEnds.{IsDone, none_freed, done_plain, call_ends}
 use Rattle.volume_steps.proofs.CreateCall.{NewPlace, new_place}

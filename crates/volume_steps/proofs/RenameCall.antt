@@ -73,68 +73,68 @@ module _ (tx : ℕ) (v : VolumeNow) (h : IsPlainNow v) (n : ℕ) (before : AreBo
   abbrev tree : Tree
   tree = tree_of_now v
 
-  plain : IsPlain (tree_of_now v)
+  pub plain : IsPlain (tree_of_now v)
   plain = tree_is_plain v h
 
-  r : Renames (tree_of_now v) path other d
+  pub r : Renames (tree_of_now v) path other d
   r = renames (tree_of_now v) n path other d (done_row (room_of v.geometry) (tree_of_now v) n (calls.Rename path other) d done).0
 
-  abbrev from : Place
+  abbrev pub from : Place
   from = r.from
 
-  abbrev to : Place
+  abbrev pub to : Place
   to = r.to
 
-  abbrev birth : ℕ
+  abbrev pub birth : ℕ
   birth = r.found.birth
 
-  abbrev m : Move
+  abbrev pub m : Move
   m = record { moved = r.found; from = r.from; to = r.to; target = target_at (tree_of_now v) r.to }
 
-  abbrev after : Place
+  abbrev pub after : Place
   after = place_after m
 
-  abbrev taken_tree : Tree
+  abbrev pub taken_tree : Tree
   taken_tree = Taken (tree_of_now v) plain path other d r
 
-  from_stands : at_number (tree_of_now v) from.parent ≡ Some (nodes.Directory from.directory)
+  pub from_stands : at_number (tree_of_now v) from.parent ≡ Some (nodes.Directory from.directory)
   from_stands = (is_from (tree_of_now v) plain path other d r).stands
 
   to_stands : at_number (tree_of_now v) to.parent ≡ Some (nodes.Directory to.directory)
   to_stands = (is_to (tree_of_now v) plain path other d r).stands
 
-  gives : at_name from.directory.names from.name ≡ Some birth
+  pub gives : at_name from.directory.names from.name ≡ Some birth
   gives = from_named (tree_of_now v) plain path other d r
 
-  far_from : birth ≢ from.parent
+  pub far_from : birth ≢ from.parent
   far_from = from_apart (tree_of_now v) plain path other d r
 
-  far_to : birth ≢ to.parent
+  pub far_to : birth ≢ to.parent
   far_to = to_apart (tree_of_now v) plain path other d r
 
-  good : IsGoodName to.name
+  pub good : IsGoodName to.name
   good = good_name (tree_of_now v) other r.more to (some_ok (path_of other) replies.BadPath r.more r.also) (is_to (tree_of_now v) plain path other d r)
 
-  to_short : length to.name ≤ v.geometry.width
+  pub to_short : length to.name ≤ v.geometry.width
   to_short =
       let same = at_width v to.parent to.directory h.in_use (directory_at v to.parent to.directory to_stands) in
       let short = (is_to (tree_of_now v) plain path other d r).short in
       omega arith
 
-  entry : (u : VolumeNow) → IsInUse u → length to.name ≤ u.geometry.width → (p : Placed) → at_number u.contents.nodes birth ≡ Some p → IsEntry u.geometry.width (record { inode = p.number; name = to.name })
+  pub entry : (u : VolumeNow) → IsInUse u → length to.name ≤ u.geometry.width → (p : Placed) → at_number u.contents.nodes birth ≡ Some p → IsEntry u.geometry.width (record { inode = p.number; name = to.name })
   entry u live short p at =
       let told = live.volume.0.each birth p at in
       good_entry u.geometry.width to.name p.number live.sound.width good short told.some (let within = told.within in let fit = live.sound.fits.inodes in omega arith)
 
   -- ---- the old name goes
 
-  abbrev less : Change
+  abbrev pub less : Change
   less = name_goes tx v h from birth from_stands gives
 
-  abbrev v1 : VolumeNow
+  abbrev pub v1 : VolumeNow
   v1 = less.volume
 
-  first : StepsTo tx v less taken_tree (links_at v.contents.nodes)
+  pub first : StepsTo tx v less taken_tree (links_at v.contents.nodes)
   first = name_goes_step tx v h from birth from_stands gives
 
   same_first : SameNumbers v.contents.nodes v1.contents.nodes
@@ -172,7 +172,7 @@ module _ (tx : ℕ) (v : VolumeNow) (h : IsPlainNow v) (n : ℕ) (before : AreBo
 
   -- ---- how the steps of a call stand for it
 
-  rename_by : rename v tx path other ≡ renamed v tx m
+  pub rename_by : rename v tx path other ≡ renamed v tx m
   rename_by =
       at_found_is (λ found. at_place v path (λ from. at_place v other (λ to. renamed v tx (record { moved = found; from = from; to = to; target = target_at (tree_of_now v) to }))))
       ∙ (at_place_is v path r.names from replies.Invalid (λ from. at_place v other (λ to. renamed v tx (record { moved = r.found; from = from; to = to; target = target_at (tree_of_now v) to }))) r.named r.from_is
@@ -191,22 +191,22 @@ module _ (tx : ℕ) (v : VolumeNow) (h : IsPlainNow v) (n : ℕ) (before : AreBo
     there1 : at_number taken_tree to.parent ≡ Some (nodes.Directory after.directory)
     there1 = to_taken (tree_of_now v) plain path other d r
 
-    x1 : DirectoryAt v1 to.parent after.directory
+    pub x1 : DirectoryAt v1 to.parent after.directory
     x1 = directory_at v1 to.parent after.directory (ap (λ tree. at_number tree to.parent) first.tree_is ∙ there1)
 
-    c1 : (p : Placed) × (at_number v1.contents.nodes birth ≡ Some p)
+    pub c1 : (p : Placed) × (at_number v1.contents.nodes birth ≡ Some p)
     c1 = node_at v1 birth r.found.node (ap (λ tree. at_number tree birth) first.tree_is ∙ moved_taken (tree_of_now v) plain path other d r)
 
-    free1 : at_name x1.part.names to.name ≡ None
+    pub free1 : at_name x1.part.names to.name ≡ None
     free1 = ap (λ (d : Directory). at_name d.names to.name) x1.same ∙ still_free (tree_of_now v) plain path other d r unnamed
 
-    left1 : is_full (directory_from x1.part) ≡ false
+    pub left1 : is_full (directory_from x1.part) ≡ false
     left1 = ap is_full x1.same ∙ left_now none
 
-    more1 : directory_zones x1.part.width (slots_with (directory_from x1.part) to.name) ≤ directory_zones x1.part.width (length x1.part.slots) + frees v1.zones
+    pub more1 : directory_zones x1.part.width (slots_with (directory_from x1.part) to.name) ≤ directory_zones x1.part.width (length x1.part.slots) + frees v1.zones
     more1 = fits v1 taken_tree first.tree_is first.steady.in_use (order_taken (tree_of_now v) plain path other d r) used_taken refl there1 final x1
 
-    abbrev named : Change
+    abbrev pub named : Change
     named = add_name v1 to.parent to.name birth
 
     second : StepsTo tx v1 named (put_number (tree_of_now v1) to.parent (nodes.Directory (with_name (directory_from x1.part) to.name birth))) (links_at v1.contents.nodes)
@@ -280,19 +280,19 @@ module _ (tx : ℕ) (v : VolumeNow) (h : IsPlainNow v) (n : ℕ) (before : AreBo
     dir_stands = stands (tree_of_now v) plain path other d r ∙ ap Some is
 
     -- the old parent has one link less
-    y1 : DirectoryAt v1 from.parent (without_name from.directory from.name)
+    pub y1 : DirectoryAt v1 from.parent (without_name from.directory from.name)
     y1 = directory_at v1 from.parent (without_name from.directory from.name) (ap (λ tree. at_number tree from.parent) first.tree_is ∙ at_put_number (tree_of_now v) from.parent (nodes.Directory (without_name from.directory from.name)))
 
-    few1 : y1.placed.inode.links - 1 ≤ 250
+    pub few1 : y1.placed.inode.links - 1 ≤ 250
     few1 = let most = first.settled.few_links from.parent y1.placed y1.stands in omega arith
 
-    abbrev fewer : Change
+    abbrev pub fewer : Change
     fewer = linked tx v1 first.steady.in_use from.parent y1.placed y1.stands (y1.placed.inode.links - 1) few1
 
-    abbrev v2 : VolumeNow
+    abbrev pub v2 : VolumeNow
     v2 = fewer.volume
 
-    below2 : StepsTo tx v1 fewer (tree_of_now v1) (links_at v2.contents.nodes)
+    pub below2 : StepsTo tx v1 fewer (tree_of_now v1) (links_at v2.contents.nodes)
     below2 = record {
       steady = linked_steady tx v1 first.steady.in_use from.parent y1.placed y1.stands (y1.placed.inode.links - 1) few1;
       tree_is = linked_directory tx v1 first.steady.in_use from.parent y1.placed y1.stands (y1.placed.inode.links - 1) few1 y1.part y1.is;
@@ -306,19 +306,19 @@ module _ (tx : ℕ) (v : VolumeNow) (h : IsPlainNow v) (n : ℕ) (before : AreBo
     tree2 = below2.tree_is ∙ first.tree_is
 
     -- it has another parent
-    z2 : DirectoryAt v2 birth e
+    pub z2 : DirectoryAt v2 birth e
     z2 = directory_at v2 birth e (ap (λ tree. at_number tree birth) tree2 ∙ dir_taken)
 
-    q2 : DirectoryAt v2 to.parent after.directory
+    pub q2 : DirectoryAt v2 to.parent after.directory
     q2 = directory_at v2 to.parent after.directory (ap (λ tree. at_number tree to.parent) tree2 ∙ to_taken (tree_of_now v) plain path other d r)
 
-    abbrev turned : Change
+    abbrev pub turned : Change
     turned = parent_set tx v2 below2.steady.in_use below2.settled below2.slotted birth z2.placed z2.stands z2.part z2.is to.parent q2.placed q2.stands
 
-    abbrev v3 : VolumeNow
+    abbrev pub v3 : VolumeNow
     v3 = turned.volume
 
-    below3 : StepsTo tx v2 turned (put_number (tree_of_now v2) birth (nodes.Directory (record { parent = to.parent; width = z2.part.width; slots = length z2.part.slots; names = z2.part.names }))) (links_at v2.contents.nodes)
+    pub below3 : StepsTo tx v2 turned (put_number (tree_of_now v2) birth (nodes.Directory (record { parent = to.parent; width = z2.part.width; slots = length z2.part.slots; names = z2.part.names }))) (links_at v2.contents.nodes)
     below3 = parent_is_set tx v2 below2.steady.in_use below2.settled below2.slotted birth z2.placed z2.stands z2.part z2.is to.parent q2.placed q2.stands
 
     tree3 : tree_of_now v3 ≡ mid
@@ -330,7 +330,7 @@ module _ (tx : ℕ) (v : VolumeNow) (h : IsPlainNow v) (n : ℕ) (before : AreBo
     mid_to = at_put_number_apart taken_tree birth (nodes.Directory (record { parent = to.parent; width = e.width; slots = e.slots; names = e.names })) to.parent (λ f. far_to (sym f)) ∙ to_taken (tree_of_now v) plain path other d r
 
     -- the new parent has one link more
-    x3 : DirectoryAt v3 to.parent after.directory
+    pub x3 : DirectoryAt v3 to.parent after.directory
     x3 = directory_at v3 to.parent after.directory (ap (λ tree. at_number tree to.parent) tree3 ∙ mid_to)
 
     links2 : (a : ℕ) → a ≢ from.parent → links_at v2.contents.nodes a ≡ links_at v.contents.nodes a
@@ -339,20 +339,20 @@ module _ (tx : ℕ) (v : VolumeNow) (h : IsPlainNow v) (n : ℕ) (before : AreBo
     links3 : Some x3.placed.inode.links ≡ Some (directory_links (tree_of_now v) to.directory)
     links3 = sym (ap (option_map (λ (p : Placed). p.inode.links)) x3.stands) ∙ (below3.links_are to.parent ∙ (links2 to.parent away ∙ linked_first to.parent to.directory to_stands))
 
-    few3 : x3.placed.inode.links + 1 ≤ 250
+    pub few3 : x3.placed.inode.links + 1 ≤ 250
     few3 = by x3.placed.inode.links (directory_links (tree_of_now v) to.directory) (same_Some _ _ links3) (below3.settled.few_links to.parent x3.placed x3.stands)
         (sym (ap (λ x. is_directory (Some x) && (not (to.parent == from.parent) && (directory_links (tree_of_now v) to.directory == 250))) is ∙ ap (λ b. not b && (directory_links (tree_of_now v) to.directory == 250)) (ne_eqb to.parent from.parent away)) ∙ r.few)
       where
         by : (a c : ℕ) → a ≡ c → a ≤ 250 → (c == 250) ≡ false → a + 1 ≤ 250
         by a c e f k = grind arith
 
-    abbrev grown : Change
+    abbrev pub grown : Change
     grown = linked tx v3 below3.steady.in_use to.parent x3.placed x3.stands (x3.placed.inode.links + 1) few3
 
-    abbrev v4 : VolumeNow
+    abbrev pub v4 : VolumeNow
     v4 = grown.volume
 
-    below4 : StepsTo tx v3 grown (tree_of_now v3) (links_at v4.contents.nodes)
+    pub below4 : StepsTo tx v3 grown (tree_of_now v3) (links_at v4.contents.nodes)
     below4 = record {
       steady = linked_steady tx v3 below3.steady.in_use to.parent x3.placed x3.stands (x3.placed.inode.links + 1) few3;
       tree_is = linked_directory tx v3 below3.steady.in_use to.parent x3.placed x3.stands (x3.placed.inode.links + 1) few3 x3.part x3.is;
@@ -366,17 +366,17 @@ module _ (tx : ℕ) (v : VolumeNow) (h : IsPlainNow v) (n : ℕ) (before : AreBo
     tree4 = below4.tree_is ∙ tree3
 
     -- the new name comes
-    x4 : DirectoryAt v4 to.parent after.directory
+    pub x4 : DirectoryAt v4 to.parent after.directory
     x4 = directory_at v4 to.parent after.directory (ap (λ tree. at_number tree to.parent) tree4 ∙ mid_to)
 
-    c4 : (p : Placed) × (at_number v4.contents.nodes birth ≡ Some p)
+    pub c4 : (p : Placed) × (at_number v4.contents.nodes birth ≡ Some p)
     c4 = node_at v4 birth (nodes.Directory (record { parent = to.parent; width = e.width; slots = e.slots; names = e.names }))
         (ap (λ tree. at_number tree birth) tree4 ∙ at_put_number taken_tree birth (nodes.Directory (record { parent = to.parent; width = e.width; slots = e.slots; names = e.names })))
 
-    free4 : at_name x4.part.names to.name ≡ None
+    pub free4 : at_name x4.part.names to.name ≡ None
     free4 = ap (λ (d : Directory). at_name d.names to.name) x4.same ∙ still_free (tree_of_now v) plain path other d r unnamed
 
-    left4 : is_full (directory_from x4.part) ≡ false
+    pub left4 : is_full (directory_from x4.part) ≡ false
     left4 = ap is_full x4.same ∙ left_now none
 
     used_mid : used_zones mid ≡ used_zones (tree_of_now v)
@@ -385,10 +385,10 @@ module _ (tx : ℕ) (v : VolumeNow) (h : IsPlainNow v) (n : ℕ) (before : AreBo
     order_mid : InOrder mid
     order_mid = in_order_put taken_tree birth (nodes.Directory (record { parent = to.parent; width = e.width; slots = e.slots; names = e.names })) (order_taken (tree_of_now v) plain path other d r)
 
-    more4 : directory_zones x4.part.width (slots_with (directory_from x4.part) to.name) ≤ directory_zones x4.part.width (length x4.part.slots) + frees v4.zones
+    pub more4 : directory_zones x4.part.width (slots_with (directory_from x4.part) to.name) ≤ directory_zones x4.part.width (length x4.part.slots) + frees v4.zones
     more4 = fits v4 mid tree4 below4.steady.in_use order_mid used_mid refl mid_to final_below x4
 
-    abbrev named_below : Change
+    abbrev pub named_below : Change
     named_below = add_name v4 to.parent to.name birth
 
     below5 : StepsTo tx v4 named_below (put_number (tree_of_now v4) to.parent (nodes.Directory (with_name (directory_from x4.part) to.name birth))) (links_at v4.contents.nodes)
@@ -461,10 +461,10 @@ module _ (tx : ℕ) (v : VolumeNow) (h : IsPlainNow v) (n : ℕ) (before : AreBo
         (λ apart l f. from_links l f)
         (λ a f found far off. links4 a far ∙ links2 a off))
 
-    goes_below : (moves_directory m && changes_parent m) ≡ true
+    pub goes_below : (moves_directory m && changes_parent m) ≡ true
     goes_below = ap (λ x. is_directory (Some x) && not (to.parent == from.parent)) is ∙ ap not (ne_eqb to.parent from.parent away)
 
-    below_is : move_below v from.parent from.name to.parent to.name birth ≡ joined less (joined fewer (joined turned (joined grown named_below)))
+    pub below_is : move_below v from.parent from.name to.parent to.name birth ≡ joined less (joined fewer (joined turned (joined grown named_below)))
     below_is =
         ap (λ c. followed_by c (λ u. followed_by (set_links u from.parent (λ links. links - 1)) (λ w. followed_by (set_parent w birth to.parent) (λ x. followed_by (set_links x to.parent (λ links. links + 1)) (λ y. add_name y to.parent to.name birth)))))
         (name_goes_is tx v h from birth from_stands gives)
@@ -502,35 +502,35 @@ module _ (tx : ℕ) (v : VolumeNow) (h : IsPlainNow v) (n : ℕ) (before : AreBo
     there : at_number (tree_of_now v) t.birth ≡ Some (nodes.File f)
     there = target_stands (tree_of_now v) to t target ∙ ap Some is
 
-    t_far_from : t.birth ≢ from.parent
+    pub t_far_from : t.birth ≢ from.parent
     t_far_from e = cc (sym from_stands ∙ (ap (at_number (tree_of_now v)) (sym e) ∙ there))
 
-    t_far_to : t.birth ≢ to.parent
+    pub t_far_to : t.birth ≢ to.parent
     t_far_to e = cc (sym to_stands ∙ (ap (at_number (tree_of_now v)) (sym e) ∙ there))
 
-    m1 : DirectoryAt v1 to.parent after.directory
+    pub m1 : DirectoryAt v1 to.parent after.directory
     m1 = directory_at v1 to.parent after.directory (ap (λ tree. at_number tree to.parent) first.tree_is ∙ to_taken (tree_of_now v) plain path other d r)
 
-    moved1 : (p : Placed) × (at_number v1.contents.nodes birth ≡ Some p)
+    pub moved1 : (p : Placed) × (at_number v1.contents.nodes birth ≡ Some p)
     moved1 = node_at v1 birth r.found.node (ap (λ tree. at_number tree birth) first.tree_is ∙ moved_taken (tree_of_now v) plain path other d r)
 
     still : at_name after.directory.names to.name ≡ Some t.birth
     still = still_met (tree_of_now v) plain path other d r t.birth led_to apart
 
-    found1 : at_name m1.part.names to.name ≡ Some t.birth
+    pub found1 : at_name m1.part.names to.name ≡ Some t.birth
     found1 = ap (λ (d : Directory). at_name d.names to.name) m1.same ∙ still
 
-    sorted1 : IsStrictlySortedBy name_cmp (keys_of m1.part.names)
+    pub sorted1 : IsStrictlySortedBy name_cmp (keys_of m1.part.names)
     sorted1 = subst (λ (d : Directory). IsStrictlySortedBy name_cmp (keys_of d.names)) (sym m1.same) (after_sorted (tree_of_now v) plain path other d r)
 
     -- the name leads to the file
-    abbrev led : Change
+    abbrev pub led : Change
     led = name_led tx v1 first.steady.in_use first.settled first.slotted to.parent m1.placed m1.stands m1.part m1.is to.name t.birth found1 sorted1 birth moved1.0 moved1.1 (entry v1 first.steady.in_use to_short moved1.0 moved1.1)
 
-    abbrev w2 : VolumeNow
+    abbrev pub w2 : VolumeNow
     w2 = led.volume
 
-    met2 : StepsTo tx v1 led (put_number (tree_of_now v1) to.parent (nodes.Directory (with_name (directory_from m1.part) to.name birth))) (links_at v1.contents.nodes)
+    pub met2 : StepsTo tx v1 led (put_number (tree_of_now v1) to.parent (nodes.Directory (with_name (directory_from m1.part) to.name birth))) (links_at v1.contents.nodes)
     met2 = name_is_led tx v1 first.steady.in_use first.settled first.slotted to.parent m1.placed m1.stands m1.part m1.is to.name t.birth found1 sorted1 birth moved1.0 moved1.1 (entry v1 first.steady.in_use to_short moved1.0 moved1.1)
 
     same_led : SameNumbers v1.contents.nodes w2.contents.nodes
@@ -548,7 +548,7 @@ module _ (tx : ℕ) (v : VolumeNow) (h : IsPlainNow v) (n : ℕ) (before : AreBo
     w2_stands : at_number (tree_of_now w2) t.birth ≡ Some (nodes.File f)
     w2_stands = ap (λ tree. at_number tree t.birth) tree_met ∙ met_stands
 
-    y2 : FileAt w2 t.birth f
+    pub y2 : FileAt w2 t.birth f
     y2 = file_found w2 t.birth f w2_stands
 
     order_met : InOrder met_tree
@@ -721,6 +721,17 @@ module _ (tx : ℕ) (v : VolumeNow) (h : IsPlainNow v) (n : ℕ) (before : AreBo
     replaced_done : IsDone tx v (rename v tx path other) d.tree
     replaced_done = elim (cases_Bool (nat_le f.links 1)) [ inl t ↦ when_gone t | inr f ↦ when_kept f ]
 
+  -- ---- what takes the name of a file is a file
+
+  pub file_moves : (t : Found) (f : File) → m.target ≡ Some t → t.node ≡ nodes.File f → (g : File) × (r.found.node ≡ nodes.File g)
+  file_moves t f target is = of (what (tree_of_now v) plain path other d r)
+    where
+      of : What (tree_of_now v) plain path other d r → (g : File) × (r.found.node ≡ nodes.File g)
+      of (a_fil g file) = (g, file)
+      of (a_dir e dir up) = absurd (true≢false
+          (sym (ap (λ (o : Option Found). elim o as (λ _. Bool) [ None ↦ false | Some t ↦ is_file (Some t.node) ] && is_directory (Some r.found.node)) target
+          ∙ (ap (λ x. is_file (Some x) && is_directory (Some r.found.node)) is ∙ ap (λ x. is_directory (Some x)) dir)) ∙ r.no_file))
+
   -- ---- both names are of one node
 
   stays_done : stays m ≡ true → IsDone tx v (rename v tx path other) d.tree
@@ -746,15 +757,6 @@ module _ (tx : ℕ) (v : VolumeNow) (h : IsPlainNow v) (n : ℕ) (before : AreBo
     | inr not_same ↦ by not_same (met (tree_of_now v) plain path other d r)
   ]
     where
-      file_moves : (t : Found) (f : File) → m.target ≡ Some t → t.node ≡ nodes.File f → (g : File) × (r.found.node ≡ nodes.File g)
-      file_moves t f target is = of (what (tree_of_now v) plain path other d r)
-        where
-          of : What (tree_of_now v) plain path other d r → (g : File) × (r.found.node ≡ nodes.File g)
-          of (a_fil g file) = (g, file)
-          of (a_dir e dir up) = absurd (true≢false
-              (sym (ap (λ (o : Option Found). elim o as (λ _. Bool) [ None ↦ false | Some t ↦ is_file (Some t.node) ] && is_directory (Some r.found.node)) target
-              ∙ (ap (λ x. is_file (Some x) && is_directory (Some r.found.node)) is ∙ ap (λ x. is_directory (Some x)) dir)) ∙ r.no_file))
-
       free : stays m ≡ false → m.target ≡ None → at_name to.directory.names to.name ≡ None → What (tree_of_now v) plain path other d r → IsDone tx v (rename v tx path other) d.tree
       free not_same none unnamed (a_fil f is) = moved_done not_same none unnamed (ap (λ x. is_directory (Some x) && changes_parent m) is)
       free not_same none unnamed (a_dir e is up) = elim (cases_eq to.parent from.parent) [

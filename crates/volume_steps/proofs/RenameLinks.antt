@@ -15,7 +15,8 @@ use Rattle.tree_model.specs.laws.MapOrder.{NamesInOrder, at_put_cases}
 use Rattle.tree_model.specs.Trees.{is_directory, directory_links}
 use Rattle.tree_model.specs.Plain.{IsPlain}
 use Rattle.tree_model.specs.Calls.{Tree, Done, with_name, without_name, slots_with}
-use Rattle.volume_steps.proofs.DirectoryLinks.{AreLinked, weigh, links_same, links_take_name}
+use Rattle.tree_model.proofs.NamedNodes.{links_same}
+use Rattle.volume_steps.proofs.DirectoryLinks.{AreLinked, weigh, links_take_name}
 use Rattle.volume_steps.proofs.RenameTree.{Renames, F, T, B, A, Taken, is_from, from_named, after_sorted, same_directory}
 
 over_names : (tree : Tree) (names : List (List ℕ × ℕ)) → count_by (λ e. is_directory (at_number tree e.1)) names ≡ sum_by (weigh tree) (values_of names)

@@ -28,7 +28,8 @@ use Rattle.volume_steps.specs.Calls.{rmdir, at_path}
 use Rattle.volume_steps.specs.Plain.{IsPlainNow}
 use Rattle.volume_steps.proofs.CallEnds.{IsDone, done_plain, call_ends}
 use Rattle.volume_steps.proofs.CallPaths.{done_row, at_place_is, at_path_is, DirectoryAt, directory_at}
-use Rattle.volume_steps.proofs.DirectoryLinks.{AreLinked, linked_before, links_same, links_take_name, leads_in, weigh_directory}
+use Rattle.tree_model.proofs.NamedNodes.{links_same}
+use Rattle.volume_steps.proofs.DirectoryLinks.{AreLinked, linked_before, links_take_name, leads_in, weigh_directory}
 use Rattle.volume_steps.proofs.Drops.{dropped_change, dropped_frees, drops}
 use Rattle.volume_steps.proofs.GoneDirectories.{lists_of_directory, count_of_directory}
 use Rattle.volume_steps.proofs.NameGoes.{name_goes, name_goes_is, name_goes_step, name_goes_numbers, kinds_stay, order_stays}
@@ -93,7 +94,7 @@ directory_same d e same = cc
 
 module _ (tx : ℕ) (v : VolumeNow) (h : IsPlainNow v) (n : ℕ) (before : AreBornBefore n (tree_of_now v)) (path : List ℕ) (d : Done)
     (done : outcome (room_of v.geometry) (tree_of_now v) n (calls.Rmdir path) ≡ Ok d) where
-  said : Rmdirs v path d
+  pub said : Rmdirs v path d
   said = rmdirs v n path d (done_row (room_of v.geometry) (tree_of_now v) n (calls.Rmdir path) d done).0
 
   abbrev place : Place
@@ -102,7 +103,7 @@ module _ (tx : ℕ) (v : VolumeNow) (h : IsPlainNow v) (n : ℕ) (before : AreBo
   abbrev birth : ℕ
   birth = said.found.birth
 
-  is_place : IsPlace (tree_of_now v) said.names place
+  pub is_place : IsPlace (tree_of_now v) said.names place
   is_place = parent_ok replies.Invalid (tree_of_now v) said.names place said.parent
 
   is_found : IsFound (tree_of_now v) said.names said.found
@@ -111,13 +112,13 @@ module _ (tx : ℕ) (v : VolumeNow) (h : IsPlainNow v) (n : ℕ) (before : AreBo
   plain : IsPlain (tree_of_now v)
   plain = tree_is_plain v h
 
-  stands : at_number (tree_of_now v) birth ≡ Some (nodes.Directory said.directory)
+  pub stands : at_number (tree_of_now v) birth ≡ Some (nodes.Directory said.directory)
   stands = is_found.stands ∙ ap Some said.is_directory
 
-  y : DirectoryAt v birth said.directory
+  pub y : DirectoryAt v birth said.directory
   y = directory_at v birth said.directory stands
 
-  gives : at_name place.directory.names place.name ≡ Some birth
+  pub gives : at_name place.directory.names place.name ≡ Some birth
   gives = place_names (tree_of_now v) said.names place said.found is_place is_found
 
   parent_gives : HasEntry (tree_of_now v) place.parent place.name birth
@@ -127,7 +128,7 @@ module _ (tx : ℕ) (v : VolumeNow) (h : IsPlainNow v) (n : ℕ) (before : AreBo
   empty : said.directory.names ≡ []
   empty = no_names said.directory said.empty
 
-  apart : birth ≢ place.parent
+  pub apart : birth ≢ place.parent
   apart e =
       let same : said.directory ≡ place.directory = directory_same said.directory place.directory (sym stands ∙ (ap (at_number (tree_of_now v)) e ∙ is_place.stands)) in
       none-some birth (sym (ap (λ names. at_name names place.name) empty) ∙ (ap (λ (d : Directory). at_name d.names place.name) same ∙ gives))

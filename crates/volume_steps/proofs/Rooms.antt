@@ -92,25 +92,25 @@ module _ (v : VolumeNow) (in_use : IsInUse v) (n : ℕ) (p : Placed) (at : at_nu
   pub volume : IsVolume g c
   volume = volume_marked v in_use n p at index enough
 
-  own_kept : (x : Place) → zone_in c.blocks p.inode x ≡ own x
+  pub own_kept : (x : Place) → zone_in c.blocks p.inode x ≡ own x
   own_kept = own_marked v in_use n p at index enough
 
   pub free : AreFree g c.blocks c.nodes p.inode t.taken (way index)
   free = free_marked v in_use n p at index enough
 
-  abbrev u : OpenInode
+  abbrev pub u : OpenInode
   u = grown g in_use.sound c.blocks c.nodes n p volume.0 at t.taken (zeros 1024) (length-zeros 1024) index high free
 
-  outcome : Outcome g t.taken (record { blocks = c.blocks; inode = p.inode }) u (way index)
+  pub outcome : Outcome g t.taken (record { blocks = c.blocks; inode = p.inode }) u (way index)
   outcome = map_outcome g in_use.sound c.blocks c.nodes n p volume.0 at t.taken (zeros 1024) (length-zeros 1024) index high free
 
-  abbrev Z : ℕ → Type 0
+  abbrev pub Z : ℕ → Type 0
   Z = MapWrites g in_use.sound c.blocks c.nodes n p volume.0 at t.taken (zeros 1024) (length-zeros 1024) index high free
 
   part : IsDirectoryPart v.geometry c.blocks p.inode d
   part = subst (IsPart v.geometry c.blocks p.inode) is (volume.0.each n p at).part
 
-  may : MayMove g in_use.sound c.blocks c.nodes n p volume.0 at u (parts.Directory d) Z
+  pub may : MayMove g in_use.sound c.blocks c.nodes n p volume.0 at u (parts.Directory d) Z
   may = may_map g in_use.sound c.blocks c.nodes n p volume.0 at t.taken (zeros 1024) (length-zeros 1024) index high free (parts.Directory d)
       (map_directory g in_use.sound c.blocks c.nodes n p volume.0 at t.taken (zeros 1024) (length-zeros 1024) index high free d part)
       (λ e same. volume.0.names n p e at (is ∙ same))

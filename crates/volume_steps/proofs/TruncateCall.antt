@@ -94,7 +94,7 @@ order_cut size es order =
 
 -- ---- bytes behind the size become zeros
 
-cut_length : (size index : ℕ) (body : List ℕ) → length body ≡ 1024 → 1024 * index < size → length (cut_body size index body) ≡ 1024
+pub cut_length : (size index : ℕ) (body : List ℕ) → length body ≡ 1024 → 1024 * index < size → length (cut_body size index body) ≡ 1024
 cut_length size index body whole low = elim (cases_Bool (nat_le (1024 * index + 1024) size)) [
   | inl y ↦ rw y whole
   | inr z ↦ rw z (parts_length (leb-false _ _ z))

@@ -35,7 +35,8 @@ use Rattle.volume_steps.proofs.NameGoes.{name_goes, name_goes_is, name_goes_step
 use Rattle.volume_steps.proofs.QuietSteps.{at_node_is, linked, linked_steady, linked_file, linked_settled, linked_slotted, set_links_is}
 use Rattle.volume_steps.proofs.StepsTo.{StepsTo, joined, steps_then, links_at}
 use Rattle.volume_steps.proofs.CallPaths.{done_row, at_place_is, at_path_is}
-use Rattle.volume_steps.proofs.DirectoryLinks.{AreLinked, linked_before, links_same, links_take_name, weigh}
+use Rattle.tree_model.proofs.NamedNodes.{links_same}
+use Rattle.volume_steps.proofs.DirectoryLinks.{AreLinked, linked_before, links_take_name, weigh}
 use Rattle.volume_steps.proofs.PlainNow.{tree_is_plain}
 use Rattle.volume_steps.proofs.CallEnds.{IsDone, done_plain, call_ends}
 use Rattle.volume_steps.proofs.LinkCall.{FileAt, file_found}
@@ -87,7 +88,7 @@ unlinks v n path d h =
 
 module _ (tx : ℕ) (v : VolumeNow) (h : IsPlainNow v) (n : ℕ) (before : AreBornBefore n (tree_of_now v)) (path : List ℕ) (d : Done)
     (done : outcome (room_of v.geometry) (tree_of_now v) n (calls.Unlink path) ≡ Ok d) where
-  said : Unlinks v path d
+  pub said : Unlinks v path d
   said = unlinks v n path d (done_row (room_of v.geometry) (tree_of_now v) n (calls.Unlink path) d done).0
 
   abbrev place : Place
@@ -96,7 +97,7 @@ module _ (tx : ℕ) (v : VolumeNow) (h : IsPlainNow v) (n : ℕ) (before : AreBo
   abbrev birth : ℕ
   birth = said.found.birth
 
-  is_place : IsPlace (tree_of_now v) said.names place
+  pub is_place : IsPlace (tree_of_now v) said.names place
   is_place = parent_ok replies.Invalid (tree_of_now v) said.names place said.parent
 
   is_found : IsFound (tree_of_now v) said.names said.found
@@ -108,13 +109,13 @@ module _ (tx : ℕ) (v : VolumeNow) (h : IsPlainNow v) (n : ℕ) (before : AreBo
   file_stands : at_number (tree_of_now v) birth ≡ Some (nodes.File said.file)
   file_stands = is_found.stands ∙ ap Some said.is_file
 
-  y : FileAt v birth said.file
+  pub y : FileAt v birth said.file
   y = file_found v birth said.file file_stands
 
-  apart : birth ≢ place.parent
+  pub apart : birth ≢ place.parent
   apart e = cc (sym is_place.stands ∙ (ap (at_number (tree_of_now v)) (sym e) ∙ file_stands))
 
-  gives : at_name place.directory.names place.name ≡ Some birth
+  pub gives : at_name place.directory.names place.name ≡ Some birth
   gives = place_names (tree_of_now v) said.names place said.found is_place is_found
 
   abbrev less : Change

@@ -125,7 +125,7 @@ pub record IsWriteStep (tx : ℕ) (v : VolumeNow) (n : ℕ) (c : Change) (f : Fi
 
 module _ (tx : ℕ) (v : VolumeNow) (h : IsInUse v) (n : ℕ) (f : File) (found : at_number (tree_of_now v) n ≡ Some (nodes.File f)) (off : ℕ) (bytes : List ℕ) (index : ℕ) (among : IsAmong off (length bytes) index)
     (room : used_zones (put_number (tree_of_now v) n (nodes.File (with_block f index (patched index off bytes (block_or_zeros (at_number f.blocks index)))))) ≤ uses v.zones + frees v.zones) where
-  x : IsFileAt v n f
+  pub x : IsFileAt v n f
   x = file_at v h n f found
 
   abbrev blocks : List (List ℕ)
@@ -174,7 +174,7 @@ module _ (tx : ℕ) (v : VolumeNow) (h : IsInUse v) (n : ℕ) (f : File) (found 
       ∙ (count_map (λ y. zone_in blocks x.placed.inode y) (indices_of x.zones) (file_indexed v.geometry blocks v.contents.nodes n x.placed x.zones h.volume.0 x.stands x.is_file (h.volume.1 n x.placed x.stands)) index among.low hole
       ∙ ap (λ k. zones_of_file (indices_of x.zones) + k) (holes_counted (λ y. zone_in blocks x.placed.inode y) index v.zones among.low hole)))))
 
-  enough : zone ≡ 0 → length numbers ≤ frees v.zones
+  pub enough : zone ≡ 0 → length numbers ≤ frees v.zones
   enough hole =
       let sum = used_put_more (tree_of_now v) n (nodes.File f) (nodes.File after) (tree_in_order blocks v.contents.nodes h.volume.0.in_order) found in
       let one = zones_before in

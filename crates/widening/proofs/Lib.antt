@@ -11,7 +11,6 @@ pub mod OwnZones
 pub mod Shares
 pub mod ShareZones
 pub mod Entries
-pub mod InodeBytes
 pub mod PlacesKept
 pub mod ReadBack
 pub mod Writes

@@ -28,7 +28,7 @@ use Rattle.volume_ops.specs.Places.{birth_of, inode_of_birth, table_block}
 use Rattle.volume_ops.specs.Marks.{is_marked}
 use Rattle.volume_ops.specs.Volume.{disk_of, walked}
 use Rattle.volume_ops.specs.Walk.{Walked}
-use Rattle.volume_ops.specs.VolumeFields.{inode_at, slot_behind, IsBelow}
+use Rattle.volume_ops.specs.VolumeFields.{inode_at, zone_behind, slot_behind, IsBelow}
 use Rattle.volume_ops.specs.ZonePlaces.{ZonePlace, zone_in}
 use Rattle.volume_ops.specs.Faultless.{IsDirectory, HasZones, zone_at_place, IsReached, at_root, by_name, IsUsed}
 use Rattle.volume_ops.specs.VolumeTrees.{IsVolumeTree}
@@ -40,15 +40,15 @@ use Rattle.volume_model.specs.Edits.{Edit, put_inode, set_bit, put_body, touched
 use Rattle.volume_model.specs.laws.Trees.{In-at}
 use Rattle.volume_model.specs.laws.Changes.{table_below, changes_inode, changes_bit}
 use Rattle.volume_model.specs.laws.Edits.{inode_here, untouched}
+use Rattle.volume_model.proofs.Bytes.{inode_fits}
 use Rattle.widening.specs.Written.{put_slots, put_numbers}
 use Rattle.widening.specs.Directories.{zones_needed, is_free, free_zones, directories, wide_slots, slot_edits, number_edits, bit_edits, wide_inode, kept_by, own_zones, edits_of, got_by, zones_given, all_edits, has_no_room, all_needed}
 use Rattle.widening.specs.Changed.{IsWritten}
 use Rattle.widening.specs.Changed as changed
 use Rattle.widening.specs.Widened.{wide, magic_edit}
 use Rattle.widening.proofs.Entries.{IsGood, IsSmall, behind_good, entries_good}
-use Rattle.widening.proofs.InodeBytes.{inode_fits}
 use Rattle.widening.proofs.OwnZones.{IsOwn}
-use Rattle.widening.proofs.ReadBack.{direct_index, length-filled, zone_among, zone_once, slot_read}
+use Rattle.widening.proofs.ReadBack.{direct_index, length-filled, zone_among, zone_is, zone_once, slot_read}
 use Rattle.widening.proofs.ReadBodies.{length-put_numbers}
 use Rattle.widening.proofs.Shares.{AreOnce, Meets, met_of, met_in, edit_met, met_edit, left_in, left_apart, got_free, got_all, got_are_free, got_once, met_once, enough, not_many, has_room}
 use Rattle.widening.proofs.ShareZones.{slots, top, had as had_list, IsHad, HasTop, is_had, length-slots, slots_apart, slot_had, slot_some, no_top, has_top}
@@ -79,7 +79,7 @@ module _ (g : Geometry) (blocks : List (List ℕ)) (tree : List (ℕ × Node)) (
   abbrev pub free : List ℕ
   free = free_zones g blocks all.zones
 
-  full : IsFull w blocks
+  pub full : IsFull w blocks
   full = (image.whole, image.size)
 
   -- ---- free zones
@@ -102,7 +102,7 @@ module _ (g : Geometry) (blocks : List (List ℕ)) (tree : List (ℕ × Node)) (
   unfolding free_zones
   free_apart = apart_filter (is_free g blocks all.zones) (range_with_len g.first (g.zones - g.first)) (apart_range g.first (g.zones - g.first))
 
-  free_unused : (z : ℕ) → In z free → IsUsed g blocks z → ⊥
+  pub free_unused : (z : ℕ) → In z free → IsUsed g blocks z → ⊥
   free_unused z i u = true≢false (sym ((walked_used g blocks all sound.some_inode walk z).1 u) ∙ (free_in z i).0)
 
   -- ---- nodes of the tree
@@ -113,7 +113,7 @@ module _ (g : Geometry) (blocks : List (List ℕ)) (tree : List (ℕ × Node)) (
   back : (birth : ℕ) (node : Node) → at_number tree birth ≡ Some node → birth_of (inode_of_birth birth) ≡ birth
   back birth node at = (led_reached g blocks tree h (h.rooted.led_to birth node at)).1
 
-  within : {n : ℕ} → IsReached g blocks n → n ≤ g.inodes
+  pub within : {n : ℕ} → IsReached g blocks n → n ≤ g.inodes
   within at_root = (let some = sound.some_inode in omega (arith, some))
   within (by_name {inode} {place} {slot} r m) = h.faultless.inode_within inode place slot r m
 
@@ -141,16 +141,16 @@ module _ (g : Geometry) (blocks : List (List ℕ)) (tree : List (ℕ × Node)) (
     abbrev inode_of : ℕ × Directory → Inode
     inode_of f = inode_at g blocks f.0
 
-    abbrev needed : ℕ × Directory → ℕ
+    abbrev pub needed : ℕ × Directory → ℕ
     needed f = zones_needed (length f.1.names)
 
-    abbrev slots_of : ℕ × Directory → List ℕ → List ℕ
+    abbrev pub slots_of : ℕ × Directory → List ℕ → List ℕ
     slots_of f left = slots blocks (inode_of f) (needed f) left
 
-    abbrev top_of : ℕ × Directory → List ℕ → ℕ
+    abbrev pub top_of : ℕ × Directory → List ℕ → ℕ
     top_of f left = top blocks (inode_of f) (needed f) left
 
-    abbrev Had : ℕ × Directory → List ℕ → ℕ → Type 0
+    abbrev pub Had : ℕ × Directory → List ℕ → ℕ → Type 0
     Had f left z = IsHad blocks (inode_of f) (needed f) left z
 
     abbrev entries_of : ℕ × Directory → List Slot
@@ -159,7 +159,7 @@ module _ (g : Geometry) (blocks : List (List ℕ)) (tree : List (ℕ × Node)) (
     abbrev new_inode : ℕ × Directory → List ℕ → Inode
     new_inode f left = wide_inode (inode_of f) (length f.1.names + 2) (slots_of f left) (top_of f left)
 
-    record Share (f : ℕ × Directory) (left : List ℕ) : Type 0 where
+    pub record Share (f : ℕ × Directory) (left : List ℕ) : Type 0 where
       pub at : IsAt tree f
       pub stands : at_number tree at.birth ≡ Some (nodes.Directory f.1)
       pub reached : IsReached g blocks f.0
@@ -171,10 +171,10 @@ module _ (g : Geometry) (blocks : List (List ℕ)) (tree : List (ℕ × Node)) (
       pub fits : all_needed (needed f) (kept_by (inode_of f) (needed f)) - length (own_zones blocks (inode_of f) (needed f)) ≤ length left
       pub few : needed f ≤ 519
 
-    used_by : (n : ℕ) → IsReached g blocks n → HasZones g blocks n → (z : ℕ) → IsOwn blocks (inode_at g blocks n) z → IsUsed g blocks z
+    pub used_by : (n : ℕ) → IsReached g blocks n → HasZones g blocks n → (z : ℕ) → IsOwn blocks (inode_at g blocks n) z → IsUsed g blocks z
     used_by n r kind z o = record { inode = n; place = o.place; reached = r; kind = kind; some = o.some; stands = o.zone }
 
-    share : (f : ℕ × Directory) (left : List ℕ) → Met f left → Share f left
+    pub share : (f : ℕ × Directory) (left : List ℕ) → Met f left → Share f left
     share f left m =
         let a = directory_at tree f (met_in w blocks es free f left m) in
         let stands = In-at tree a.birth (nodes.Directory f.1) h.rooted.in_order a.stands in
@@ -197,13 +197,13 @@ module _ (g : Geometry) (blocks : List (List ℕ)) (tree : List (ℕ × Node)) (
         above z low zero_is = let tables = sound.tables_below in omega (arith, low, zero_is, tables)
 
     module _ (f : ℕ × Directory) (left : List ℕ) (s : Share f left) where
-      many_slots : length (slots_of f left) ≡ needed f
+      pub many_slots : length (slots_of f left) ≡ needed f
       many_slots = length-slots blocks (inode_of f) (needed f) left s.one s.apart s.unused s.some s.fits
 
       slots_differ : AreApart (slots_of f left)
       slots_differ = slots_apart blocks (inode_of f) (needed f) left s.one s.apart s.unused s.some s.fits
 
-      slot_is_had : (z : ℕ) → In z (slots_of f left) → Had f left z
+      pub slot_is_had : (z : ℕ) → In z (slots_of f left) → Had f left z
       slot_is_had = slot_had blocks (inode_of f) (needed f) left s.one s.apart s.unused s.some s.fits
 
       slot_there : (z : ℕ) → In z (slots_of f left) → z ≢ 0
@@ -212,10 +212,10 @@ module _ (g : Geometry) (blocks : List (List ℕ)) (tree : List (ℕ × Node)) (
       top_none : length (slots_of f left) ≤ 7 → top_of f left ≡ 0
       top_none few = no_top blocks (inode_of f) (needed f) left s.one s.apart s.unused s.some s.fits (let n = many_slots in omega (arith, few, n))
 
-      top_is : 7 < length (slots_of f left) → HasTop blocks (inode_of f) (needed f) left s.one s.apart s.unused s.some s.fits
+      pub top_is : 7 < length (slots_of f left) → HasTop blocks (inode_of f) (needed f) left s.one s.apart s.unused s.some s.fits
       top_is many = has_top blocks (inode_of f) (needed f) left s.one s.apart s.unused s.some s.fits (let n = many_slots in omega (arith, many, n))
 
-      had_within : (m : Met f left) (z : ℕ) → Had f left z → (g.first ≤ z) × (z < g.zones)
+      pub had_within : (m : Met f left) (z : ℕ) → Had f left z → (g.first ≤ z) × (z < g.zones)
       had_within m z (inl o) = subst (λ z. (g.first ≤ z) × (z < g.zones)) o.zone (h.faultless.zone_within f.0 o.place s.reached (inl s.kind) (λ none. o.some (sym o.zone ∙ none)))
       had_within m z (inr t) = let x = free_in z (got_free w blocks es free f left z m t) in (x.1, x.2)
 
@@ -243,7 +243,7 @@ module _ (g : Geometry) (blocks : List (List ℕ)) (tree : List (ℕ × Node)) (
               let below : IsBelow x.0 (nodes.Directory f.1) = subst (IsBelow x.0) same y.2 in
               subst (λ p. IsSmall p) (sym below) (small x.0 (nodes.Directory x.2.directory) x.2.stands))
 
-      number_fits : (0 < f.0) × (f.0 < 2 ^ 16)
+      pub number_fits : (0 < f.0) × (f.0 < 2 ^ 16)
       number_fits = subst (λ n. (0 < n) × (n < 2 ^ 16)) s.at.number (small s.at.birth (nodes.Directory f.1) s.stands)
 
       entries_ok : (x : Slot) → In x (entries_of f) → IsEntry 30 x
@@ -323,7 +323,7 @@ module _ (g : Geometry) (blocks : List (List ℕ)) (tree : List (ℕ × Node)) (
 
     -- ---- the zones of two directories
 
-    one_had : (f e : ℕ × Directory) (l m : List ℕ) (z : ℕ) → Met f l → Met e m → Had f l z → Had e m z → (f ≡ e) × (l ≡ m)
+    pub one_had : (f e : ℕ × Directory) (l m : List ℕ) (z : ℕ) → Met f l → Met e m → Had f l z → Had e m z → (f ≡ e) × (l ≡ m)
     one_had f e l m z a b (inl o) (inl p) =
         let s = share f l a in
         let t = share e m b in
@@ -333,35 +333,46 @@ module _ (g : Geometry) (blocks : List (List ℕ)) (tree : List (ℕ × Node)) (
     one_had f e l m z a b (inr i) (inl p) = absurd (let t = share e m b in free_unused z (got_free w blocks es free f l z a i) (used_by e.0 t.reached (inl t.kind) z p))
     one_had f e l m z a b (inr i) (inr j) = got_once w blocks es free f e l m z free_apart a b i j
 
-    move : (P : ℕ × Directory → List ℕ → Type 0) {f e : ℕ × Directory} {l m : List ℕ} → f ≡ e → l ≡ m → P f l → P e m
+    pub move : (P : ℕ × Directory → List ℕ → Type 0) {f e : ℕ × Directory} {l m : List ℕ} → f ≡ e → l ≡ m → P f l → P e m
     move P {f} {e} {l} {m} same left p = subst (λ x. P x m) same (subst (λ k. P f k) left p)
 
     -- ---- kinds of writes
 
-    abbrev writes : List Edit
+    abbrev pub writes : List Edit
     writes = magic_edit ∷ all_edits w blocks es free
 
     abbrev numbers_of : ℕ × Directory → List ℕ → List ℕ
     numbers_of f left = put_numbers 0 (drop 7 (slots_of f left)) (filled 0)
 
-    data Kind : Edit → Type 0 where
+    pub data Kind : Edit → Type 0 where
       of_magic : Kind magic_edit
       of_bit : (z : ℕ) (used : Bool) → g.first ≤ z → z < g.zones → Kind (set_bit (2 + g.imap) (z - g.first + 1) used)
       of_slots : (f : ℕ × Directory) (left : List ℕ) (j : ℕ) → Met f left → j < length (slots_of f left) → Kind (put_body (slice_index (slots_of f left) j) (slots_body (entries_of f) j))
       of_numbers : (f : ℕ × Directory) (left : List ℕ) → Met f left → 7 < length (slots_of f left) → Kind (put_body (top_of f left) (numbers_of f left))
       of_inode : (f : ℕ × Directory) (left : List ℕ) → Met f left → Kind (put_inode f.0 (new_inode f left))
 
+    -- the zones that a directory takes, and those that it gives up
+    abbrev pub taken_by : ℕ × Directory → List ℕ → List ℕ
+    taken_by f left = got_by w blocks f.0 f.1 left
+
+    abbrev pub given_by : ℕ × Directory → List ℕ → List ℕ
+    given_by f left = zones_given (needed f) (kept_by (inode_of f) (needed f)) (own_zones blocks (inode_of f) (needed f)) left
+
+    -- a zone that is given up was had
+    pub given_had : (f : ℕ × Directory) (left : List ℕ) → Met f left → (z : ℕ) → In z (given_by f left) → Had f left z
+    given_had f left m z i =
+        let s = share f left m in
+        is_had blocks (inode_of f) (needed f) left s.one s.apart s.unused s.some s.fits z (In-drop _ (had_list blocks (inode_of f) (needed f) left) z i)
+
     -- what holds of the writes of each part holds of each write of the directory
     module _ (K : Edit → Type 0) (f : ℕ × Directory) (left : List ℕ) (m : Met f left)
-        (bit : (z : ℕ) (used : Bool) → g.first ≤ z → z < g.zones → K (set_bit (2 + g.imap) (z - g.first + 1) used))
+        (taken : (z : ℕ) → In z (taken_by f left) → K (set_bit (2 + g.imap) (z - g.first + 1) true))
+        (given : (z : ℕ) → In z (given_by f left) → K (set_bit (2 + g.imap) (z - g.first + 1) false))
         (slot : (j : ℕ) → j < length (slots_of f left) → K (put_body (slice_index (slots_of f left) j) (slots_body (entries_of f) j)))
         (number : 7 < length (slots_of f left) → K (put_body (top_of f left) (numbers_of f left)))
         (inode : K (put_inode f.0 (new_inode f left))) where
-      in_bits : (used : Bool) (zones : List ℕ) → ((z : ℕ) → In z zones → Had f left z) → (x : Edit) → In x (bit_edits w used zones) → K x
-      in_bits used zones are x i =
-          let y = In-map (λ z. set_bit (2 + g.imap) (z - g.first + 1) used) zones x i in
-          let range = had_within f left (share f left m) m y.0 (are y.0 y.1) in
-          subst K y.2 (bit y.0 used range.0 range.1)
+      in_bits : (used : Bool) (zones : List ℕ) → ((z : ℕ) → In z zones → K (set_bit (2 + g.imap) (z - g.first + 1) used)) → (x : Edit) → In x (bit_edits w used zones) → K x
+      in_bits used zones bit x i = let y = In-map (λ z. set_bit (2 + g.imap) (z - g.first + 1) used) zones x i in subst K y.2 (bit y.0 y.1)
 
       in_numbers : (x : Edit) → In x (number_edits (top_of f left) (slots_of f left)) → K x
       in_numbers x i =
@@ -370,15 +381,13 @@ module _ (g : Geometry) (blocks : List (List ℕ)) (tree : List (ℕ × Node)) (
           (λ few. absurd (subst (λ xs. In x xs) (no_numbers (top_of f left) (slots_of f left) few) i))
           (cases_lt 7 (length (slots_of f left)))
 
-      in_edits : (x : Edit) → In x (edits_of w blocks f.0 f.1 left) → K x
+      pub in_edits : (x : Edit) → In x (edits_of w blocks f.0 f.1 left) → K x
       in_edits x i =
-          let s = share f left m in
           ⊎_elim
-          (λ a. in_bits true (got_by w blocks f.0 f.1 left) (λ z j. inr j) x a)
+          (λ a. in_bits true (taken_by f left) taken x a)
           (λ b.
           ⊎_elim
-          (λ c. in_bits false (zones_given (needed f) (kept_by (inode_of f) (needed f)) (own_zones blocks (inode_of f) (needed f)) left)
-          (λ z j. is_had blocks (inode_of f) (needed f) left s.one s.apart s.unused s.some s.fits z (In-drop _ (had_list blocks (inode_of f) (needed f) left) z j)) x c)
+          (λ c. in_bits false (given_by f left) given x c)
           (λ d.
           ⊎_elim
           (λ e. let y = in_slot_edits (slots_of f left) (entries_of f) x e in subst K y.2 (slot y.0 y.1))
@@ -386,13 +395,16 @@ module _ (g : Geometry) (blocks : List (List ℕ)) (tree : List (ℕ × Node)) (
           ⊎_elim (λ n. in_numbers x n) (λ last. ⊎_elim (λ same. subst K same inode) (λ none. absurd none) last)
           (In-append_cases (number_edits (top_of f left) (slots_of f left)) _ x t))
           (In-append_cases (slot_edits (slots_of f left) (entries_of f)) _ x d))
-          (In-append_cases (bit_edits w false (zones_given (needed f) (kept_by (inode_of f) (needed f)) (own_zones blocks (inode_of f) (needed f)) left)) _ x b))
-          (In-append_cases (bit_edits w true (got_by w blocks f.0 f.1 left)) _ x i)
+          (In-append_cases (bit_edits w false (given_by f left)) _ x b))
+          (In-append_cases (bit_edits w true (taken_by f left)) _ x i)
 
     kind_in : (f : ℕ × Directory) (left : List ℕ) → Met f left → (x : Edit) → In x (edits_of w blocks f.0 f.1 left) → Kind x
-    kind_in f left m = in_edits Kind f left m of_bit (λ j low. of_slots f left j m low) (λ many. of_numbers f left m many) (of_inode f left m)
+    kind_in f left m = in_edits Kind f left m (λ z i. in_range z true (inr i)) (λ z i. in_range z false (given_had f left m z i)) (λ j low. of_slots f left j m low) (λ many. of_numbers f left m many) (of_inode f left m)
+      where
+        in_range : (z : ℕ) (used : Bool) → Had f left z → Kind (set_bit (2 + g.imap) (z - g.first + 1) used)
+        in_range z used had = let range = had_within f left (share f left m) m z had in of_bit z used range.0 range.1
 
-    kind_of : (x : Edit) → In x writes → Kind x
+    pub kind_of : (x : Edit) → In x writes → Kind x
     kind_of x (inl same) = subst Kind same of_magic
     kind_of x (inr i) = let y = edit_met w blocks es free x i in kind_in y.0 y.1 y.2 x y.3
 
@@ -406,7 +418,7 @@ module _ (g : Geometry) (blocks : List (List ℕ)) (tree : List (ℕ × Node)) (
     ZoneOf (put_body zone content) b = b ≡ zone
     ZoneOf other b = ⊥
 
-    bit_below : (z : ℕ) → g.first ≤ z → z < g.zones → 2 + g.imap + (z - g.first + 1) / 8192 < 2 + g.imap + g.zmap
+    pub bit_below : (z : ℕ) → g.first ≤ z → z < g.zones → 2 + g.imap + (z - g.first + 1) / 8192 < 2 + g.imap + g.zmap
     bit_below z low high = let bits = sound.zone_bits in omega (arith, low, high, bits)
 
     changes : (x : Edit) → Kind x → (b : List (List ℕ)) → IsFull w b → Changes w (λ j. InodeOf x j) (λ z. ZoneOf x z) b (edited w b x)
@@ -425,7 +437,7 @@ module _ (g : Geometry) (blocks : List (List ℕ)) (tree : List (ℕ × Node)) (
         let s = share f left m in
         changes_inode w b f.0 (new_inode f left) wide_is_sound full.0 full.1 (number_fits f left s).0 (within s.reached) (new_fits f left s m)
 
-    full_after : (x : Edit) → Kind x → (b : List (List ℕ)) → IsFull w b → IsFull w (edited w b x)
+    pub full_after : (x : Edit) → Kind x → (b : List (List ℕ)) → IsFull w b → IsFull w (edited w b x)
     full_after x k b full = let c = changes x k b full in (c.whole, c.size ∙ full.1)
 
     abbrev pub after : List (List ℕ)
@@ -487,8 +499,8 @@ module _ (g : Geometry) (blocks : List (List ℕ)) (tree : List (ℕ × Node)) (
         slots_written : In (put_body zone (slots_body (entries_of f) j)) writes
         slots_written =
             inr (met_edit w blocks es free f left (put_body zone (slots_body (entries_of f) j)) m
-            (In-append_right (bit_edits w true (got_by w blocks f.0 f.1 left)) _ _
-            (In-append_right (bit_edits w false (zones_given (needed f) (kept_by (inode_of f) (needed f)) (own_zones blocks (inode_of f) (needed f)) left)) _ _
+            (In-append_right (bit_edits w true (taken_by f left)) _ _
+            (In-append_right (bit_edits w false (given_by f left)) _ _
             (In-append_left (slot_edits (slots_of f left) (entries_of f)) _ _ (slot_edits_in (slots_of f left) (entries_of f) j low)))))
 
         slots_read_back : disk_of after zone ≡ slots_body (entries_of f) j
@@ -533,8 +545,8 @@ module _ (g : Geometry) (blocks : List (List ℕ)) (tree : List (ℕ × Node)) (
         numbers_written : In (put_body up (numbers_of f left)) writes
         numbers_written =
             inr (met_edit w blocks es free f left (put_body up (numbers_of f left)) m
-            (In-append_right (bit_edits w true (got_by w blocks f.0 f.1 left)) _ _
-            (In-append_right (bit_edits w false (zones_given (needed f) (kept_by (inode_of f) (needed f)) (own_zones blocks (inode_of f) (needed f)) left)) _ _
+            (In-append_right (bit_edits w true (taken_by f left)) _ _
+            (In-append_right (bit_edits w false (given_by f left)) _ _
             (In-append_right (slot_edits (slots_of f left) (entries_of f)) _ _
             (In-append_left (number_edits (top_of f left) (slots_of f left)) _ _
             (subst (λ xs. In (put_body up (numbers_of f left)) xs) (sym (numbers_in g (top_of f left) (slots_of f left) many)) (inl refl)))))))
@@ -571,19 +583,19 @@ module _ (g : Geometry) (blocks : List (List ℕ)) (tree : List (ℕ × Node)) (
       inode_written : In (put_inode f.0 (new_inode f left)) writes
       inode_written =
           inr (met_edit w blocks es free f left (put_inode f.0 (new_inode f left)) m
-          (In-append_right (bit_edits w true (got_by w blocks f.0 f.1 left)) _ _
-          (In-append_right (bit_edits w false (zones_given (needed f) (kept_by (inode_of f) (needed f)) (own_zones blocks (inode_of f) (needed f)) left)) _ _
+          (In-append_right (bit_edits w true (taken_by f left)) _ _
+          (In-append_right (bit_edits w false (given_by f left)) _ _
           (In-append_right (slot_edits (slots_of f left) (entries_of f)) _ _
           (In-append_right (number_edits (top_of f left) (slots_of f left)) _ _ (inl refl))))))
 
-      inode_read_back : inode_at w after f.0 ≡ new_inode f left
+      pub inode_read_back : inode_at w after f.0 ≡ new_inode f left
       inode_read_back =
           view_set w (λ b. inode_at w b f.0) (new_inode f left) writes (λ x i b full. let k = kind_of x i in (full_after x k b full, inodes_kept x k b full))
           (put_inode f.0 (new_inode f left)) inode_written (λ b full. inode_is_set f left m refl b full) blocks full
 
       -- ---- so the directory stands anew
 
-      abbrev read_inode : Inode
+      abbrev pub read_inode : Inode
       read_inode = wide_inode (inode_of f) (length (entries_of f)) (slots_of f left) (top_of f left)
 
       top_apart_from : 7 < length (slots_of f left) → (top_of f left ≢ 0) × (In (top_of f left) (slots_of f left) → ⊥)
@@ -592,9 +604,15 @@ module _ (g : Geometry) (blocks : List (List ℕ)) (tree : List (ℕ × Node)) (
       bodies_there : (j : ℕ) → j < length (slots_of f left) → disk_of after (slice_index (slots_of f left) j) ≡ put_slots 0 (take 32 (drop (32 * j) (entries_of f))) (filled 0)
       bodies_there j low = slots_read_back j low ∙ body_is (entries_of f) j
 
-      among : (x : ZonePlace) → zone_in after read_inode x ≢ 0 → In (zone_in after read_inode x) (slots_of f left) ⊎ ((zone_in after read_inode x ≡ top_of f left) × (7 < length (slots_of f left)))
+      pub among : (x : ZonePlace) → zone_in after read_inode x ≢ 0 → In (zone_in after read_inode x) (slots_of f left) ⊎ ((zone_in after read_inode x ≡ top_of f left) × (7 < length (slots_of f left)))
       among =
           zone_among g after (inode_of f) (entries_of f) (slots_of f left) (top_of f left) (slots_differ f left s) (slot_there f left s) (small_zone f left s m) (few_slots f left s)
+          (top_none f left s) top_apart_from bodies_there numbers_read_back
+
+      -- block k of the directory stands in slot zone k
+      pub zones_there : (k : ℕ) → zone_behind after read_inode k ≡ slice_index (slots_of f left) k
+      zones_there =
+          zone_is g after (inode_of f) (entries_of f) (slots_of f left) (top_of f left) (slots_differ f left s) (slot_there f left s) (small_zone f left s m) (few_slots f left s)
           (top_none f left s) top_apart_from bodies_there numbers_read_back
 
       once_there : (x y : ZonePlace) → zone_in after read_inode x ≢ 0 → zone_in after read_inode x ≡ zone_in after read_inode y → x ≡ y
@@ -611,7 +629,7 @@ module _ (g : Geometry) (blocks : List (List ℕ)) (tree : List (ℕ × Node)) (
       had_there x some =
           ⊎_elim (λ i. slot_is_had f left s (zone_in after read_inode x) i) (λ t. subst (Had f left) (sym t.0) (top_is f left s t.1).had_is) (among x some)
 
-      same_new : read_inode ≡ new_inode f left
+      pub same_new : read_inode ≡ new_inode f left
       same_new = ap (λ n. wide_inode (inode_of f) n (slots_of f left) (top_of f left)) (length-wide_slots f.0 f.1)
 
     -- ---- everything else stays
@@ -710,7 +728,8 @@ module _ (g : Geometry) (blocks : List (List ℕ)) (tree : List (ℕ × Node)) (
     first_stays x i =
         let y = edit_met w blocks es free x i in
         in_edits (λ x. 2 ≤ touched_by w x) y.0 y.1 y.2
-        (λ z used low high. omega arith)
+        (λ z i. omega arith)
+        (λ z i. omega arith)
         (λ j low. let range = had_within y.0 y.1 (share y.0 y.1 y.2) y.2 _ (slot_is_had y.0 y.1 (share y.0 y.1 y.2) _ (index_in (slots_of y.0 y.1) j low)) in let tables = sound.tables_below in omega (arith, range.0, tables))
         (λ many. let range = had_within y.0 y.1 (share y.0 y.1 y.2) y.2 _ (top_is y.0 y.1 (share y.0 y.1 y.2) many).had_is in let tables = sound.tables_below in omega (arith, range.0, tables))
         (omega arith) x y.3

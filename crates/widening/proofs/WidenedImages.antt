@@ -19,7 +19,7 @@ use Rattle.volume_ops.specs.laws.ReadsLaws.{err-ok, same_Ok}
 use Rattle.volume_model.specs.Edits.{Edit, touched_by, body_after, edited, edited_all}
 use Rattle.volume_model.specs.laws.Edits.{length-edited}
 use Rattle.widening.specs.Widened.{wide}
-use Rattle.widening.proofs.InodeBytes.{AreBytes, number_fits}
+use Rattle.volume_model.proofs.Bytes.{AreBytes, number_fits}
 
 -- ---- the superblock with another magic number
 

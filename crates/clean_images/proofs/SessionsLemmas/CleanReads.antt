@@ -32,7 +32,7 @@ use Rattle.minix_host.specs.Volumes.{is_metadata}
 use Rattle.minix_host.proofs.Metadata.{meta_tested, walk_meta}
 use Rattle.minix_host.proofs.Standing.{low_meta}
 use Rattle.vol_check.specs.Clean.{IsClean}
-use Rattle.clean_images.proofs.SessionsLemmas.SameClean.{first_zone_of, table_low, same_clean}
+use Rattle.vol_check.proofs.SameClean.{first_zone_of, table_low, same_clean}
 
 -- ---- a list of blocks
 
@@ -148,7 +148,7 @@ module _ (v : VolumeNow) (h : IsPlainNow v) (clean : IsClean v.geometry v.conten
       ap (λ body. bit_of body (inode_bit g inode).at) (low_at g (disk_of blocks) (inode_bit g inode).block (omega (arith, high, bits, below)))
 
   inode_there : (inode : ℕ) → inode ≤ g.inodes → inode_at g tables inode ≡ inode_at g blocks inode
-  inode_there inode high = ap (inode_in_block inode) (low_at g (disk_of blocks) (table_block g inode) (table_low g sound inode high))
+  inode_there inode high = ap (inode_in_block inode) (low_at g (disk_of blocks) (table_block g inode) (let low = table_low g sound.some_inode inode high in let below = sound.tables_below in omega (arith, low, below)))
 
   first_there : (inode : ℕ) → inode ≤ g.inodes → slice_index (inode_at g tables inode).zones 0 ≡ first_zone_of g blocks inode
   first_there inode high = ap (λ (i : Inode). slice_index i.zones 0) (inode_there inode high) ∙ sym (zone_at-direct _ (inode_at g blocks inode).zones 0 (omega arith))
@@ -214,4 +214,6 @@ module _ (v : VolumeNow) (h : IsPlainNow v) (clean : IsClean v.geometry v.conten
         same_mapped (disk_of other) (disk_of blocks) (first_zones g tables) same_firsts (first_zone_of g blocks inode) (subst (λ z. In z (first_zones g tables)) (first_there inode high) listed)
 
     pub other_clean : IsClean g other
-    other_clean = same_clean g sound blocks other (faultless g v.contents h.plain) same_walk table_same first_same clean
+    other_clean = same_clean g sound blocks other (faultless g v.contents h.plain) same_walk
+        (λ b low high. table_same b (let below = sound.tables_below in omega (arith, high, below)))
+        (λ inode some high led directory has. first_same inode some high led directory) clean

@@ -1,14 +1,9 @@
 -- Parts of a list of zones: what is taken of it, and what is left.
-use Rattle.std.specs.Prelude.{◌≡◌, ℕ, zero, suc, ◌+◌, ◌<◌, ◌⊎◌, List, [], ◌∷◌, map, length, take, drop, slice_index}
-use Rattle.std.proofs.Common.{ap, subst, inl, inr, ⊎_elim, arith}
+use Rattle.std.specs.Prelude.{◌≡◌, ℕ, zero, suc, ◌+◌, ◌<◌, ◌⊎◌, List, [], ◌∷◌, length, take, drop, slice_index}
+use Rattle.std.proofs.Common.{subst, inl, inr, ⊎_elim, arith}
 use Rattle.std.proofs.lemmas.List.{length-take}
 use Rattle.blk_base.specs.Members.{In}
 use Rattle.widening.proofs.ZoneLists.{AreApart, index_in, index_take, taken_or_left, In-drop}
-
-pub In-mapped : {X Y : Type 0} (f : X → Y) (xs : List X) (x : X) → In x xs → In (f x) (map f xs)
-In-mapped f [] x i = i
-In-mapped f (y ∷ xs) x (inl same) = inl (ap f same)
-In-mapped f (y ∷ xs) x (inr i) = inr (In-mapped f xs x i)
 
 pub part_of : (n : ℕ) (xs : List ℕ) (z : ℕ) → In z xs → In z (take n xs) ⊎ In z (drop n xs)
 part_of zero xs z i = inr i

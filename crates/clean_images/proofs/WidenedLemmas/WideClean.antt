@@ -35,13 +35,14 @@ use Rattle.widening.specs.Widened.{wide, magic_edit}
 use Rattle.widening.specs.WideTrees.{wide_directory, wide_node, wide_tree}
 use Rattle.widening.proofs.OwnZones.{IsOwn}
 use Rattle.widening.proofs.PlacesKept.{place_kept}
+use Rattle.widening.proofs.Rewriting as again
 use Rattle.widening.proofs.Rewriting.{HasGot, rewriting}
 use Rattle.widening.proofs.Shares.{Meets, met_of, got_free}
 use Rattle.widening.proofs.TreeDirectories.{directory_in}
 use Rattle.widening.proofs.WideFields.{IsRewriting, wide_volume_tree}
 use Rattle.widening.proofs.WideTreeMaps.{wide_at, narrow_at, narrow_directory, narrow_file}
 use Rattle.widening.proofs.ZoneLists.{in_index}
-use Rattle.clean_images.proofs.WidenedLemmas.Rewritten as again
+use Rattle.clean_images.proofs.WidenedLemmas.WidenedBits as marks
 use Rattle.clean_images.proofs.WidenedLemmas.ServedZones.{had_serves, taken_not_given, serves_stays}
 use Rattle.clean_images.proofs.WidenedLemmas.WideLinks.{same_links, same_names, narrow_other, wide_other}
 
@@ -140,10 +141,10 @@ module _ (g : Geometry) (blocks : List (List ℕ)) (tree : List (ℕ × Node)) (
   -- ---- zones that are taken, given up, and had by files
 
   abbrev IsTaken : ℕ → Type 0
-  IsTaken z = again.IsTaken g blocks tree all h walk sound wide_is_sound image narrow room z
+  IsTaken z = marks.IsTaken g blocks tree all h walk sound wide_is_sound image narrow room z
 
   abbrev IsGiven : ℕ → Type 0
-  IsGiven z = again.IsGiven g blocks tree all h walk sound wide_is_sound image narrow room z
+  IsGiven z = marks.IsGiven g blocks tree all h walk sound wide_is_sound image narrow room z
 
   record IsServing (z : ℕ) : Type 0 where
     pub directory : ℕ × Directory
@@ -287,14 +288,14 @@ module _ (g : Geometry) (blocks : List (List ℕ)) (tree : List (ℕ × Node)) (
     inode_marks : (inode : ℕ) → 1 ≤ inode → inode ≤ g.inodes → (has_bit after (inode_bit w inode) ≡ true) ↔ ((node : Node) × (at_number new (birth_of inode) ≡ Some node))
     inode_marks inode low high =
         let was = agrees.inode_bits inode low high in
-        let same = again.inode_bit_stays g blocks tree all h walk sound wide_is_sound image narrow room (inode_bit w inode) (omega arith) (let bits = sound.inode_bits in omega (arith, high, bits)) in (
+        let same = marks.inode_bit_stays g blocks tree all h walk sound wide_is_sound image narrow room (inode_bit w inode) (omega arith) (let bits = sound.inode_bits in omega (arith, high, bits)) in (
           λ t. let x = was.0 (sym same ∙ t) in (wide_node x.0, wide_at tree (birth_of inode) x.0 x.1),
           λ node. let x = narrow_at tree (birth_of inode) node.0 node.1 in same ∙ was.1 (x.0, x.1),
         )
 
     module _ (z : ℕ) (low : g.first ≤ z) (high : z < g.zones) where
       stays_marked : IsUsed g blocks z → (IsGiven z → ⊥) → has_bit after (zone_bit w z) ≡ true
-      stays_marked u none = again.marked_kept g blocks tree all h walk sound wide_is_sound image narrow room z low high (λ t. taken_unused z t u) none ∙ agrees.used_zones z low high u
+      stays_marked u none = marks.marked_kept g blocks tree all h walk sound wide_is_sound image narrow room z low high (λ t. taken_unused z t u) none ∙ agrees.used_zones z low high u
 
       serving_marked : (u : IsServing z) → has_bit after (zone_bit w z) ≡ true
       serving_marked u =
@@ -302,7 +303,7 @@ module _ (g : Geometry) (blocks : List (List ℕ)) (tree : List (ℕ × Node)) (
           (λ o.
           let s = again.share g blocks tree all h walk sound wide_is_sound image narrow room u.directory u.left u.met in
           stays_marked (again.used_by g blocks tree all h walk sound wide_is_sound image narrow room u.directory.0 s.reached (inl s.kind) z o) (λ t. serving_not_given z u t))
-          (λ taken. again.marked_taken g blocks tree all h walk sound wide_is_sound image narrow room z low high (u.directory, u.left, u.met, taken) (λ t. serving_not_given z u t))
+          (λ taken. marks.marked_taken g blocks tree all h walk sound wide_is_sound image narrow room z low high (u.directory, u.left, u.met, taken) (λ t. serving_not_given z u t))
           (serves_had u.directory u.left u.met z u.serves)
 
       used_marked : IsUsed w after z → has_bit after (zone_bit w z) ≡ true
@@ -316,9 +317,9 @@ module _ (g : Geometry) (blocks : List (List ℕ)) (tree : List (ℕ × Node)) (
 
           wrong : has_bit after (zone_bit w z) ≡ true → ⊥
           wrong t =
-              let kept : IsGiven z → ⊥ = λ given. true≢false (sym t ∙ again.marked_given g blocks tree all h walk sound wide_is_sound image narrow room z low high given untaken) in
+              let kept : IsGiven z → ⊥ = λ given. true≢false (sym t ∙ marks.marked_given g blocks tree all h walk sound wide_is_sound image narrow room z low high given untaken) in
               let was = agrees.unused_zones z low high (λ u. ⊎_elim none kept (used_before z u)) (λ other. no_other (wide_other tree other)) in
-              true≢false (sym t ∙ (again.marked_kept g blocks tree all h walk sound wide_is_sound image narrow room z low high untaken kept ∙ was))
+              true≢false (sym t ∙ (marks.marked_kept g blocks tree all h walk sound wide_is_sound image narrow room z low high untaken kept ∙ was))
 
     wide_links : (birth : ℕ) (d : Directory) → at_number new birth ≡ Some (nodes.Directory d) → (inode_at w after (inode_of_birth birth)).links ≡ directory_links new d
     wide_links birth d at =

@@ -16,23 +16,23 @@ use Rattle.volume_model.specs.declared.placed.Part.TheVariants as parts
 use Rattle.volume_model.specs.declared.placed.Placed.{Placed}
 use Rattle.volume_model.specs.Counts.{indices_of, keeps_below}
 use Rattle.volume_model.specs.Cut.{IsKeep}
-use Rattle.volume_model.specs.Edits.{Edit}
 use Rattle.volume_model.specs.MapBlock.{OpenInode, own_of}
 use Rattle.volume_model.specs.Moves.{IsVolume, AreFree, file_cut}
 use Rattle.volume_model.specs.Touched.{Contents}
-use Rattle.volume_model.specs.Volume.{block, zone_in, IsPart, IsFilePart, IsDirectoryPart}
+use Rattle.volume_model.specs.Volume.{block, zone_in, IsPart, IsFilePart}
 use Rattle.volume_model.specs.Ways.{way}
 use Rattle.volume_model.specs.laws.Counts.{IsIndexed, keep_below}
 use Rattle.volume_model.specs.laws.Indexed.{file_indexed}
 use Rattle.volume_model.specs.laws.MapBlock.{Outcome, little_zero}
 use Rattle.volume_model.specs.laws.MapBody.{mapped_content}
 use Rattle.volume_model.specs.laws.OnWay.{in_list, on_way, way_on}
-use Rattle.volume_model.specs.laws.ZoneMoves.{grown, map_outcome, MapWrites, may_map, map_directory, map_file, data_kept, MayMove, same_disk, less, CutWrites, may_cut}
+use Rattle.volume_model.specs.laws.ZoneMoves.{grown, MapWrites, may_map, map_file, data_kept, MayMove, same_disk, less, CutWrites, may_cut}
 use Rattle.volume_steps.specs.Now.{VolumeNow, written}
 use Rattle.volume_steps.specs.Plain.{IsInUse}
 use Rattle.volume_steps.specs.Steps.{map_directory_block, map_file_block, blocks_cut}
 use Rattle.volume_steps.specs.Zones.{TakenFor, take_zones, zone_bit}
 use Rattle.volume_steps.proofs.Bits.{ChangesNone, AreZones, bits_none, kept_volume}
+use Rattle.volume_steps.proofs.Rooms as room
 use Rattle.volume_steps.proofs.Taking.{frees}
 use Rattle.volume_steps.proofs.TakeZones.{volume_marked, own_marked, free_marked, marks_change_none}
 use Rattle.clean_volumes.proofs.ChangedLemmas.BareFrames.{AreFreeFrom, IsBare, move_bare, bits_bare}
@@ -67,42 +67,34 @@ module _ (v : VolumeNow) (h : IsInUse v) (n : ℕ) (p : Placed) (d : DirectoryPa
   g = v.geometry
 
   abbrev t : TakenFor
-  t = take_zones (λ x. zone_in v.contents.blocks p.inode x) index v.zones
-
-  abbrev es : List Edit
-  es = map (zone_bit g true) t.numbers
+  t = room.t v h n p at d is index high hole enough
 
   abbrev c : Contents
-  c = written g v.contents es
+  c = room.c v h n p at d is index high hole enough
 
   abbrev content : List ℕ
   content = zeros 1024
 
-  volume : IsVolume g c
-  volume = volume_marked v h n p at index enough
+  abbrev volume : IsVolume g c
+  volume = room.volume v h n p at d is index high hole enough
 
-  free : AreFree g c.blocks c.nodes p.inode t.taken (way index)
-  free = free_marked v h n p at index enough
+  abbrev free : AreFree g c.blocks c.nodes p.inode t.taken (way index)
+  free = room.free v h n p at d is index high hole enough
 
   gap : zone_in c.blocks p.inode (block index) ≡ 0
-  gap = own_marked v h n p at index enough (block index) ∙ hole
+  gap = room.own_kept v h n p at d is index high hole enough (block index) ∙ hole
 
   abbrev u : OpenInode
-  u = grown g h.sound c.blocks c.nodes n p volume.0 at t.taken content (length-zeros 1024) index high free
+  u = room.u v h n p at d is index high hole enough
 
-  outcome : Outcome g t.taken (record { blocks = c.blocks; inode = p.inode }) u (way index)
-  outcome = map_outcome g h.sound c.blocks c.nodes n p volume.0 at t.taken content (length-zeros 1024) index high free
-
-  part : IsDirectoryPart g c.blocks p.inode d
-  part = subst (IsPart g c.blocks p.inode) is (volume.0.each n p at).part
+  abbrev outcome : Outcome g t.taken (record { blocks = c.blocks; inode = p.inode }) u (way index)
+  outcome = room.outcome v h n p at d is index high hole enough
 
   abbrev Z : ℕ → Type 0
-  Z = MapWrites g h.sound c.blocks c.nodes n p volume.0 at t.taken content (length-zeros 1024) index high free
+  Z = room.Z v h n p at d is index high hole enough
 
-  may : MayMove g h.sound c.blocks c.nodes n p volume.0 at u (parts.Directory d) Z
-  may = may_map g h.sound c.blocks c.nodes n p volume.0 at t.taken content (length-zeros 1024) index high free (parts.Directory d)
-      (map_directory g h.sound c.blocks c.nodes n p volume.0 at t.taken content (length-zeros 1024) index high free d part)
-      (λ e same. volume.0.names n p e at (is ∙ same))
+  abbrev may : MayMove g h.sound c.blocks c.nodes n p volume.0 at u (parts.Directory d) Z
+  may = room.may v h n p at d is index high hole enough
 
   -- the new block is of zeros
   new_zone : own_of u (block index) ≡ t.taken.data_zone

@@ -1,39 +1,30 @@
 -- The blocks of a directory that goes below another parent.
-use Rattle.std.specs.Prelude.{◌≡◌, ◌≢◌, ◌≤◌, ◌-◌, ◌+◌, ℕ, ◌==◌, Bool, true, false, not, ◌&&◌, if◌then◌else◌, List, length, Option, Some, None, option_map, Ok, refl, codes, ◌/◌}
+use Rattle.std.specs.Prelude.{◌≡◌, ◌≢◌, ◌≤◌, ◌-◌, ◌+◌, ℕ, Bool, false, if◌then◌else◌, List, length, Option, Some, None, Ok, refl, codes, ◌/◌}
 use Rattle.std.proofs.Common.{sym, ap, subst, ◌∙◌, inl, inr, arith}
-use Rattle.std.proofs.lemmas.Bool.{ne_eqb}
 use Rattle.std.proofs.lemmas.Option.{same_Some}
 use Rattle.blk_base.specs.Members.{In}
 use Rattle.minix_layout.specs.Slots.{IsEntry}
 use Rattle.tree_model.specs.declared.node.Directory.{Directory}
 use Rattle.tree_model.specs.Maps.{at_number, at_name, put_number}
-use Rattle.tree_model.specs.laws.MapOrder.{InOrder, in_order_put}
-use Rattle.tree_model.specs.laws.MapsLaws.{at_put_number, at_put_number_apart}
-use Rattle.tree_model.specs.Plain.{IsPlain, AreBornBefore}
-use Rattle.tree_model.specs.Trees.{is_directory, directory_links}
-use Rattle.tree_model.specs.Calls.{Tree, Done, Place, Found, Move, outcome, directory_zones, used_zones, slots_with, without_name, is_full, stays, moves_directory, changes_parent}
+use Rattle.tree_model.specs.laws.MapsLaws.{at_put_number_apart}
+use Rattle.tree_model.specs.Plain.{AreBornBefore}
+use Rattle.tree_model.specs.Calls.{Tree, Done, Place, Found, Move, outcome, used_zones, without_name, stays}
 use Rattle.tree_model.proofs.Hanging.{IsGoodName}
 use Rattle.volume_model.specs.declared.placed.Placed.{Placed}
 use Rattle.volume_model.specs.declared.placed.DirectoryPart.{DirectoryPart}
-use Rattle.volume_model.specs.Trees.{directory_from}
-use Rattle.volume_steps.specs.Now.{VolumeNow, Change, tree_of_now, room_of, followed_by, unchanged}
-use Rattle.volume_steps.specs.Steps.{add_name, set_parent, set_links, with_parent}
-use Rattle.volume_steps.specs.Calls.{move_below, renamed, rename}
+use Rattle.volume_steps.specs.Now.{VolumeNow, Change, tree_of_now, room_of, unchanged}
+use Rattle.volume_steps.specs.Steps.{with_parent}
+use Rattle.volume_steps.specs.Calls.{renamed, rename}
 use Rattle.volume_steps.specs.Plain.{IsPlainNow, IsInUse}
 use Rattle.volume_steps.proofs.Taking.{frees}
-use Rattle.volume_steps.proofs.NameGoes.{name_goes_is}
-use Rattle.volume_steps.proofs.QuietSteps.{linked, linked_steady, linked_directory, linked_settled, linked_slotted, set_links_is}
 use Rattle.volume_steps.proofs.StepsTo.{StepsTo, joined, links_at}
-use Rattle.volume_steps.proofs.CallPaths.{DirectoryAt, directory_at, good_no_dot}
-use Rattle.volume_steps.proofs.DirectoryLinks.{AreLinked}
+use Rattle.volume_steps.proofs.CallPaths.{DirectoryAt, good_no_dot}
 use Rattle.volume_steps.proofs.PlainNow.{settled_before}
-use Rattle.volume_steps.proofs.TreeSteps.{used_put_same}
-use Rattle.volume_steps.proofs.SlotChanges.{parent_set, parent_is_set, set_parent_is}
-use Rattle.volume_steps.proofs.RenameTree.{Renames, named_tree, stands, to_taken, moved_taken, order_taken, still_free, moves_below}
+use Rattle.volume_steps.proofs.RenameTree.{Renames, stands}
 use Rattle.volume_model.specs.Plain.{HasDots}
 use Rattle.clean_volumes.proofs.ChangedLemmas.Ends.{Ends, node_differs, told_differs}
 use Rattle.clean_volumes.proofs.ChangedLemmas.Links.{links_placed, links_stands, links_zones, links_told, others_zones}
-use Rattle.volume_steps.proofs.RenameCall.{node_at}
+use Rattle.volume_steps.proofs.RenameCall as call
 use Rattle.std.specs.List.{slice_get}
 use Rattle.std.proofs.lemmas.List.{length-set}
 use Rattle.blk_base.specs.laws.Members.{In-append_cases, slice_get-set_same, slice_get-length}
@@ -64,29 +55,23 @@ module _ (tx : ℕ) (v : VolumeNow) (h : IsPlainNow v) (n : ℕ) (before : AreBo
     (done : outcome (room_of v.geometry) (tree_of_now v) n (calls.Rename path other) ≡ Ok d) (enough : used_zones d.tree - used_zones (tree_of_now v) ≤ frees v.zones) where
   -- ---- what `RenameStart` has of the call
 
-  abbrev tree : Tree
-  tree = start.tree tx v h n before path other d done enough
-
-  abbrev plain : IsPlain (tree_of_now v)
-  plain = start.plain tx v h n before path other d done enough
-
   abbrev r : Renames (tree_of_now v) path other d
-  r = start.r tx v h n before path other d done enough
+  r = call.r tx v h n before path other d done enough
 
   abbrev from : Place
-  from = start.from tx v h n before path other d done enough
+  from = call.from tx v h n before path other d done enough
 
   abbrev to : Place
-  to = start.to tx v h n before path other d done enough
+  to = call.to tx v h n before path other d done enough
 
   abbrev birth : ℕ
-  birth = start.birth tx v h n before path other d done enough
+  birth = call.birth tx v h n before path other d done enough
 
   abbrev m : Move
-  m = start.m tx v h n before path other d done enough
+  m = call.m tx v h n before path other d done enough
 
   abbrev after : Place
-  after = start.after tx v h n before path other d done enough
+  after = call.after tx v h n before path other d done enough
 
   abbrev by_move : Bool → Change
   by_move = start.by_move tx v h n before path other d done enough
@@ -95,52 +80,34 @@ module _ (tx : ℕ) (v : VolumeNow) (h : IsPlainNow v) (n : ℕ) (before : AreBo
   by_target = start.by_target tx v h n before path other d done enough
 
   abbrev taken_tree : Tree
-  taken_tree = start.taken_tree tx v h n before path other d done enough
-
-  abbrev from_stands : at_number (tree_of_now v) from.parent ≡ Some (nodes.Directory from.directory)
-  from_stands = start.from_stands tx v h n before path other d done enough
-
-  abbrev to_stands : at_number (tree_of_now v) to.parent ≡ Some (nodes.Directory to.directory)
-  to_stands = start.to_stands tx v h n before path other d done enough
-
-  abbrev gives : at_name from.directory.names from.name ≡ Some birth
-  gives = start.gives tx v h n before path other d done enough
+  taken_tree = call.taken_tree tx v h n before path other d done enough
 
   abbrev far_from : birth ≢ from.parent
-  far_from = start.far_from tx v h n before path other d done enough
+  far_from = call.far_from tx v h n before path other d done enough
 
   abbrev far_to : birth ≢ to.parent
-  far_to = start.far_to tx v h n before path other d done enough
+  far_to = call.far_to tx v h n before path other d done enough
 
   abbrev good : IsGoodName to.name
-  good = start.good tx v h n before path other d done enough
+  good = call.good tx v h n before path other d done enough
 
   abbrev to_short : length to.name ≤ v.geometry.width
-  to_short = start.to_short tx v h n before path other d done enough
+  to_short = call.to_short tx v h n before path other d done enough
 
   abbrev entry : (u : VolumeNow) → IsInUse u → length to.name ≤ u.geometry.width → (p : Placed) → at_number u.contents.nodes birth ≡ Some p → IsEntry u.geometry.width (record { inode = p.number; name = to.name })
-  entry = start.entry tx v h n before path other d done enough
+  entry = call.entry tx v h n before path other d done enough
 
   abbrev less : Change
-  less = start.less tx v h n before path other d done enough
+  less = call.less tx v h n before path other d done enough
 
   abbrev v1 : VolumeNow
-  v1 = start.v1 tx v h n before path other d done enough
+  v1 = call.v1 tx v h n before path other d done enough
 
   abbrev first : StepsTo tx v less taken_tree (links_at v.contents.nodes)
-  first = start.first tx v h n before path other d done enough
-
-  abbrev linked_first : AreLinked (tree_of_now v) (links_at v.contents.nodes)
-  linked_first = start.linked_first tx v h n before path other d done enough
-
-  abbrev used_taken : used_zones taken_tree ≡ used_zones (tree_of_now v)
-  used_taken = start.used_taken tx v h n before path other d done enough
-
-  abbrev left_now : m.target ≡ None → is_full after.directory ≡ false
-  left_now = start.left_now tx v h n before path other d done enough
+  first = call.first tx v h n before path other d done enough
 
   abbrev rename_by : rename v tx path other ≡ renamed v tx m
-  rename_by = start.rename_by tx v h n before path other d done enough
+  rename_by = call.rename_by tx v h n before path other d done enough
 
   abbrev F : DirectoryAt v from.parent from.directory
   F = start.F tx v h n before path other d done enough
@@ -180,129 +147,61 @@ module _ (tx : ℕ) (v : VolumeNow) (h : IsPlainNow v) (n : ℕ) (before : AreBo
   -- ---- a directory goes below another parent
 
   module _ (not_same : stays m ≡ false) (none : m.target ≡ None) (unnamed : at_name to.directory.names to.name ≡ None) (e : Directory) (is : r.found.node ≡ nodes.Directory e) (up : e.parent ≡ from.parent) (away : to.parent ≢ from.parent) where
-    abbrev mid : Tree
-    mid = put_number taken_tree birth (nodes.Directory (record { parent = to.parent; width = e.width; slots = e.slots; names = e.names }))
+    -- ---- its steps
 
-    final_below : named_tree (tree_of_now v) plain path other d r mid ≡ d.tree
-    final_below = moves_below (tree_of_now v) plain path other d r not_same none e is
+    abbrev y1 : DirectoryAt v1 from.parent (without_name from.directory from.name)
+    y1 = call.y1 tx v h n before path other d done enough not_same none unnamed e is away
 
-    dir_taken : at_number taken_tree birth ≡ Some (nodes.Directory e)
-    dir_taken = moved_taken (tree_of_now v) plain path other d r ∙ ap Some is
-
-    dir_stands : at_number (tree_of_now v) birth ≡ Some (nodes.Directory e)
-    dir_stands = stands (tree_of_now v) plain path other d r ∙ ap Some is
-
-    -- the old parent has one link less
-    y1 : DirectoryAt v1 from.parent (without_name from.directory from.name)
-    y1 = directory_at v1 from.parent (without_name from.directory from.name) (ap (λ tree. at_number tree from.parent) first.tree_is ∙ at_put_number (tree_of_now v) from.parent (nodes.Directory (without_name from.directory from.name)))
-
-    few1 : y1.placed.inode.links - 1 ≤ 250
-    few1 = let most = first.settled.few_links from.parent y1.placed y1.stands in omega arith
+    abbrev few1 : y1.placed.inode.links - 1 ≤ 250
+    few1 = call.few1 tx v h n before path other d done enough not_same none unnamed e is away
 
     abbrev fewer : Change
-    fewer = linked tx v1 first.steady.in_use from.parent y1.placed y1.stands (y1.placed.inode.links - 1) few1
+    fewer = call.fewer tx v h n before path other d done enough not_same none unnamed e is away
 
     abbrev v2 : VolumeNow
-    v2 = fewer.volume
+    v2 = call.v2 tx v h n before path other d done enough not_same none unnamed e is away
 
-    below2 : StepsTo tx v1 fewer (tree_of_now v1) (links_at v2.contents.nodes)
-    below2 = record {
-      steady = linked_steady tx v1 first.steady.in_use from.parent y1.placed y1.stands (y1.placed.inode.links - 1) few1;
-      tree_is = linked_directory tx v1 first.steady.in_use from.parent y1.placed y1.stands (y1.placed.inode.links - 1) few1 y1.part y1.is;
-      settled = linked_settled tx v1 first.steady.in_use from.parent y1.placed y1.stands (y1.placed.inode.links - 1) few1 first.settled;
-      slotted = linked_slotted tx v1 first.steady.in_use from.parent y1.placed y1.stands (y1.placed.inode.links - 1) few1 first.slotted;
-      links_are = λ a. refl;
-      waiting = omega arith;
-    }
+    abbrev below2 : StepsTo tx v1 fewer (tree_of_now v1) (links_at v2.contents.nodes)
+    below2 = call.below2 tx v h n before path other d done enough not_same none unnamed e is away
 
-    tree2 : tree_of_now v2 ≡ taken_tree
-    tree2 = below2.tree_is ∙ first.tree_is
+    abbrev z2 : DirectoryAt v2 birth e
+    z2 = call.z2 tx v h n before path other d done enough not_same none unnamed e is away
 
-    -- it has another parent
-    z2 : DirectoryAt v2 birth e
-    z2 = directory_at v2 birth e (ap (λ tree. at_number tree birth) tree2 ∙ dir_taken)
-
-    q2 : DirectoryAt v2 to.parent after.directory
-    q2 = directory_at v2 to.parent after.directory (ap (λ tree. at_number tree to.parent) tree2 ∙ to_taken (tree_of_now v) plain path other d r)
+    abbrev q2 : DirectoryAt v2 to.parent after.directory
+    q2 = call.q2 tx v h n before path other d done enough not_same none unnamed e is away
 
     abbrev turned : Change
-    turned = parent_set tx v2 below2.steady.in_use below2.settled below2.slotted birth z2.placed z2.stands z2.part z2.is to.parent q2.placed q2.stands
+    turned = call.turned tx v h n before path other d done enough not_same none unnamed e is away
 
     abbrev v3 : VolumeNow
-    v3 = turned.volume
+    v3 = call.v3 tx v h n before path other d done enough not_same none unnamed e is away
 
-    below3 : StepsTo tx v2 turned (put_number (tree_of_now v2) birth (nodes.Directory (record { parent = to.parent; width = z2.part.width; slots = length z2.part.slots; names = z2.part.names }))) (links_at v2.contents.nodes)
-    below3 = parent_is_set tx v2 below2.steady.in_use below2.settled below2.slotted birth z2.placed z2.stands z2.part z2.is to.parent q2.placed q2.stands
+    abbrev below3 : StepsTo tx v2 turned (put_number (tree_of_now v2) birth (nodes.Directory (record { parent = to.parent; width = z2.part.width; slots = length z2.part.slots; names = z2.part.names }))) (links_at v2.contents.nodes)
+    below3 = call.below3 tx v h n before path other d done enough not_same none unnamed e is away
 
-    tree3 : tree_of_now v3 ≡ mid
-    tree3 = below3.tree_is
-        ∙ (ap (λ tree. put_number tree birth (nodes.Directory (record { parent = to.parent; width = z2.part.width; slots = length z2.part.slots; names = z2.part.names }))) tree2
-        ∙ ap (λ (d : Directory). put_number taken_tree birth (nodes.Directory (record { parent = to.parent; width = d.width; slots = d.slots; names = d.names }))) z2.same)
+    abbrev x3 : DirectoryAt v3 to.parent after.directory
+    x3 = call.x3 tx v h n before path other d done enough not_same none unnamed e is away
 
-    mid_to : at_number mid to.parent ≡ Some (nodes.Directory after.directory)
-    mid_to = at_put_number_apart taken_tree birth (nodes.Directory (record { parent = to.parent; width = e.width; slots = e.slots; names = e.names })) to.parent (λ f. far_to (sym f)) ∙ to_taken (tree_of_now v) plain path other d r
-
-    -- the new parent has one link more
-    x3 : DirectoryAt v3 to.parent after.directory
-    x3 = directory_at v3 to.parent after.directory (ap (λ tree. at_number tree to.parent) tree3 ∙ mid_to)
-
-    links2 : (a : ℕ) → a ≢ from.parent → links_at v2.contents.nodes a ≡ links_at v.contents.nodes a
-    links2 a far = ap (option_map (λ (p : Placed). p.inode.links)) (at_put_number_apart v1.contents.nodes from.parent _ a far) ∙ first.links_are a
-
-    links3 : Some x3.placed.inode.links ≡ Some (directory_links (tree_of_now v) to.directory)
-    links3 = sym (ap (option_map (λ (p : Placed). p.inode.links)) x3.stands) ∙ (below3.links_are to.parent ∙ (links2 to.parent away ∙ linked_first to.parent to.directory to_stands))
-
-    few3 : x3.placed.inode.links + 1 ≤ 250
-    few3 = by x3.placed.inode.links (directory_links (tree_of_now v) to.directory) (same_Some _ _ links3) (below3.settled.few_links to.parent x3.placed x3.stands)
-        (sym (ap (λ x. is_directory (Some x) && (not (to.parent == from.parent) && (directory_links (tree_of_now v) to.directory == 250))) is ∙ ap (λ b. not b && (directory_links (tree_of_now v) to.directory == 250)) (ne_eqb to.parent from.parent away)) ∙ r.few)
-      where
-        by : (a c : ℕ) → a ≡ c → a ≤ 250 → (c == 250) ≡ false → a + 1 ≤ 250
-        by a c e f k = grind arith
+    abbrev few3 : x3.placed.inode.links + 1 ≤ 250
+    few3 = call.few3 tx v h n before path other d done enough not_same none unnamed e is away
 
     abbrev grown : Change
-    grown = linked tx v3 below3.steady.in_use to.parent x3.placed x3.stands (x3.placed.inode.links + 1) few3
+    grown = call.grown tx v h n before path other d done enough not_same none unnamed e is away
 
     abbrev v4 : VolumeNow
-    v4 = grown.volume
+    v4 = call.v4 tx v h n before path other d done enough not_same none unnamed e is away
 
-    below4 : StepsTo tx v3 grown (tree_of_now v3) (links_at v4.contents.nodes)
-    below4 = record {
-      steady = linked_steady tx v3 below3.steady.in_use to.parent x3.placed x3.stands (x3.placed.inode.links + 1) few3;
-      tree_is = linked_directory tx v3 below3.steady.in_use to.parent x3.placed x3.stands (x3.placed.inode.links + 1) few3 x3.part x3.is;
-      settled = linked_settled tx v3 below3.steady.in_use to.parent x3.placed x3.stands (x3.placed.inode.links + 1) few3 below3.settled;
-      slotted = linked_slotted tx v3 below3.steady.in_use to.parent x3.placed x3.stands (x3.placed.inode.links + 1) few3 below3.slotted;
-      links_are = λ a. refl;
-      waiting = omega arith;
-    }
+    abbrev below4 : StepsTo tx v3 grown (tree_of_now v3) (links_at v4.contents.nodes)
+    below4 = call.below4 tx v h n before path other d done enough not_same none unnamed e is away
 
-    tree4 : tree_of_now v4 ≡ mid
-    tree4 = below4.tree_is ∙ tree3
+    abbrev x4 : DirectoryAt v4 to.parent after.directory
+    x4 = call.x4 tx v h n before path other d done enough not_same none unnamed e is away
 
-    -- the new name comes
-    x4 : DirectoryAt v4 to.parent after.directory
-    x4 = directory_at v4 to.parent after.directory (ap (λ tree. at_number tree to.parent) tree4 ∙ mid_to)
-
-    c4 : (p : Placed) × (at_number v4.contents.nodes birth ≡ Some p)
-    c4 = node_at v4 birth (nodes.Directory (record { parent = to.parent; width = e.width; slots = e.slots; names = e.names }))
-        (ap (λ tree. at_number tree birth) tree4 ∙ at_put_number taken_tree birth (nodes.Directory (record { parent = to.parent; width = e.width; slots = e.slots; names = e.names })))
-
-    free4 : at_name x4.part.names to.name ≡ None
-    free4 = ap (λ (d : Directory). at_name d.names to.name) x4.same ∙ still_free (tree_of_now v) plain path other d r unnamed
-
-    left4 : is_full (directory_from x4.part) ≡ false
-    left4 = ap is_full x4.same ∙ left_now none
-
-    used_mid : used_zones mid ≡ used_zones (tree_of_now v)
-    used_mid = used_put_same taken_tree birth (nodes.Directory e) (nodes.Directory (record { parent = to.parent; width = e.width; slots = e.slots; names = e.names })) (order_taken (tree_of_now v) plain path other d r) dir_taken refl ∙ used_taken
-
-    order_mid : InOrder mid
-    order_mid = in_order_put taken_tree birth (nodes.Directory (record { parent = to.parent; width = e.width; slots = e.slots; names = e.names })) (order_taken (tree_of_now v) plain path other d r)
-
-    more4 : directory_zones x4.part.width (slots_with (directory_from x4.part) to.name) ≤ directory_zones x4.part.width (length x4.part.slots) + frees v4.zones
-    more4 = start.fits tx v h n before path other d done enough v4 mid tree4 below4.steady.in_use order_mid used_mid refl mid_to final_below x4
+    abbrev c4 : (p : Placed) × (at_number v4.contents.nodes birth ≡ Some p)
+    c4 = call.c4 tx v h n before path other d done enough not_same none unnamed e is away
 
     abbrev named_below : Change
-    named_below = add_name v4 to.parent to.name birth
+    named_below = call.named_below tx v h n before path other d done enough not_same none unnamed e is away
 
     -- ---- what stands afterwards
 
@@ -328,8 +227,8 @@ module _ (tx : ℕ) (v : VolumeNow) (h : IsPlainNow v) (n : ℕ) (before : AreBo
     slot_below = record { inode = c4.0.number; name = to.name }
 
     comes_below : IsAdded v4 to.parent x4.placed x4.part slot_below birth named_below
-    comes_below = name_added tx v4 below4.steady.in_use to.parent x4.placed x4.stands x4.part x4.is to.name birth c4.0 c4.1 far_to free4 (good_no_dot to.name good)
-        (entry v4 below4.steady.in_use to_short c4.0 c4.1) below4.settled below4.slotted left4 more4
+    comes_below = name_added tx v4 below4.steady.in_use to.parent x4.placed x4.stands x4.part x4.is to.name birth c4.0 c4.1 far_to (call.free4 tx v h n before path other d done enough not_same none unnamed e is away) (good_no_dot to.name good)
+        (entry v4 below4.steady.in_use to_short c4.0 c4.1) below4.settled below4.slotted (call.left4 tx v h n before path other d done enough not_same none unnamed e is away) (call.more4 tx v h n before path other d done enough not_same none unnamed e is away)
 
     abbrev added_below : IsNamed v4 to.parent x4.placed x4.part slot_below birth named_below
     added_below = comes_below.named
@@ -488,26 +387,12 @@ module _ (tx : ℕ) (v : VolumeNow) (h : IsPlainNow v) (n : ℕ) (before : AreBo
       ]
     ]
 
-    goes_below : (moves_directory m && changes_parent m) ≡ true
-    goes_below = ap (λ x. is_directory (Some x) && not (to.parent == from.parent)) is ∙ ap not (ne_eqb to.parent from.parent away)
-
-    below_is : move_below v from.parent from.name to.parent to.name birth ≡ joined less (joined fewer (joined turned (joined grown named_below)))
-    below_is =
-        ap (λ c. followed_by c (λ u. followed_by (set_links u from.parent (λ links. links - 1)) (λ w. followed_by (set_parent w birth to.parent) (λ x. followed_by (set_links x to.parent (λ links. links + 1)) (λ y. add_name y to.parent to.name birth)))))
-        (name_goes_is tx v h from birth from_stands gives)
-        ∙ (ap (λ c. joined less (followed_by c (λ w. followed_by (set_parent w birth to.parent) (λ x. followed_by (set_links x to.parent (λ links. links + 1)) (λ y. add_name y to.parent to.name birth)))))
-        (set_links_is tx v1 first.steady.in_use from.parent y1.placed y1.stands (y1.placed.inode.links - 1) few1 (λ links. links - 1) refl)
-        ∙ (ap (λ c. joined less (joined fewer (followed_by c (λ x. followed_by (set_links x to.parent (λ links. links + 1)) (λ y. add_name y to.parent to.name birth)))))
-        (set_parent_is tx v2 below2.steady.in_use below2.settled below2.slotted birth z2.placed z2.stands z2.part z2.is to.parent q2.placed q2.stands)
-        ∙ ap (λ c. joined less (joined fewer (joined turned (followed_by c (λ y. add_name y to.parent to.name birth)))))
-        (set_links_is tx v3 below3.steady.in_use to.parent x3.placed x3.stands (x3.placed.inode.links + 1) few3 (λ links. links + 1) refl)))
-
     below_by : rename v tx path other ≡ whole_below
     below_by = rename_by
         ∙ (ap (λ (b : Bool). if b then unchanged v else by_target m.target) not_same
         ∙ (ap by_target none
-        ∙ (ap by_move goes_below
-        ∙ below_is)))
+        ∙ (ap by_move (call.goes_below tx v h n before path other d done enough not_same none unnamed e is away)
+        ∙ call.below_is tx v h n before path other d done enough not_same none unnamed e is away)))
 
     -- It goes below another parent.
     pub directory_below : Ends tx v (rename v tx path other) → IsTidy v.geometry v.contents v.zones → HasChanged v (rename v tx path other)

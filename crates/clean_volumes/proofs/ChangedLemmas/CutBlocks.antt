@@ -1,13 +1,10 @@
 -- The blocks of a file's zones of numbers that are cut.
-use Rattle.std.specs.Prelude.{◌≡◌, ◌≢◌, ◌+◌, ◌-◌, ◌*◌, ◌/◌, ◌%◌, ◌<◌, ◌≤◌, ◌⊎◌, ◌&&◌, nat_eq, not, ℕ, suc, Bool, true, false, if◌then◌else◌, List, [], ◌∷◌, ◌++◌, map, take, drop, length, Some, refl, zero}
+use Rattle.std.specs.Prelude.{◌≡◌, ◌≢◌, ◌+◌, ◌-◌, ◌*◌, ◌/◌, ◌%◌, ◌<◌, ◌≤◌, ◌⊎◌, ◌&&◌, nat_eq, not, ℕ, suc, Bool, true, false, if◌then◌else◌, List, [], ◌∷◌, ◌++◌, map, drop, length, Some, refl, zero}
 use Rattle.std.specs.List.{list_any}
 use Rattle.std.proofs.Common.{sym, ap, subst, ◌∙◌, inl, inr, arith}
 use Rattle.std.proofs.lemmas.Bool.{lt-ltb, le-ltb, true≢false}
 use Rattle.blk_base.specs.Members.{In}
 use Rattle.blk_base.specs.laws.Members.{In-append_cases}
-use Rattle.std.proofs.lemmas.List.{drop_all, append-nil}
-use Rattle.std.proofs.Math.Seq.{drop-append_seam}
-use Rattle.byte_fields.specs.Fields.{zeros, put_bytes}
 use Rattle.byte_fields.specs.laws.ReadLaws.{length-zeros, length-put_bytes}
 use Rattle.minix_layout.specs.declared.division.Geometry.{Geometry}
 use Rattle.minix_layout.specs.Geometry.{IsSound}
@@ -27,6 +24,7 @@ use Rattle.volume_model.specs.Touched.IsMeta.{of_numbers}
 use Rattle.volume_model.specs.Volume.{Place, indirect, double, inner, zone_in, IsOfNumbers, IsWhole}
 use Rattle.volume_model.specs.laws.Counts.{keep_below}
 use Rattle.volume_model.specs.laws.Cut.{AreThere, there_cuts}
+use Rattle.volume_model.proofs.ToldBlocks.{none_left}
 use Rattle.volume_model.specs.laws.CutTells.{told_cut, stays_as as stays_cut}
 use Rattle.volume_model.specs.laws.Edits.{edited_here, edited_elsewhere, untouched}
 use Rattle.volume_model.specs.laws.Indexed.{file_indexed}
@@ -42,27 +40,6 @@ use Rattle.clean_volumes.proofs.ChangedLemmas.Ends.{bits_told}
 use Rattle.clean_volumes.proofs.ChangedLemmas.Steps.{back_high}
 
 -- ---- a zone that is cleared
-
-zeros_only : (n : ℕ) → list_any (λ x. not (nat_eq x 0)) (zeros n) ≡ false
-unfolding zeros
-zeros_only zero = refl
-zeros_only (suc n) = zeros_only n
-
-length_take : (n : ℕ) (xs : List ℕ) → n ≤ length xs → length (take n xs) ≡ n
-length_take zero xs low = refl
-length_take (suc n) [] low = absurd (omega arith)
-length_take (suc n) (x ∷ xs) low = ap suc (length_take n xs (omega arith))
-
-none_left : (at : ℕ) (body : List ℕ) → length body ≡ 1024 → at ≤ 512 → list_any (λ x. not (nat_eq x 0)) (drop (2 * at) (put_bytes (2 * at) (zeros (1024 - 2 * at)) body)) ≡ false
-unfolding put_bytes
-none_left at body size low =
-    let long = length-zeros (1024 - 2 * at) in
-    let first : length (take (2 * at) body) ≡ 2 * at = length_take (2 * at) body (omega arith) in
-    let rest : drop (2 * at + length (zeros (1024 - 2 * at))) body ≡ [] = drop_all (2 * at + length (zeros (1024 - 2 * at))) body (omega arith) in
-    ap (λ n. list_any (λ x. not (nat_eq x 0)) (drop n (take (2 * at) body ++ (zeros (1024 - 2 * at) ++ drop (2 * at + length (zeros (1024 - 2 * at))) body)))) (sym first)
-    ∙ (ap (list_any (λ x. not (nat_eq x 0))) (drop-append_seam (take (2 * at) body) (zeros (1024 - 2 * at) ++ drop (2 * at + length (zeros (1024 - 2 * at))) body)
-    ∙ (ap (λ xs. zeros (1024 - 2 * at) ++ xs) rest ∙ append-nil (zeros (1024 - 2 * at))))
-    ∙ zeros_only (1024 - 2 * at))
 
 -- a zone of numbers that had some from there on has other bytes
 zone_differs : (g : Geometry) (blocks : List (List ℕ)) (zone at : ℕ) → IsWhole blocks → zone < length blocks → at ≤ 512 → has_numbers blocks zone at ≡ true → disk_of (edited g blocks (clear_from zone at)) zone ≢ disk_of blocks zone

@@ -1,13 +1,12 @@
 -- What a node that goes makes of the blocks that it touches.
-use Rattle.std.specs.Prelude.{◌≡◌, ◌≢◌, ◌+◌, ◌/◌, ◌^◌, ◌<◌, ◌≤◌, ◌⊎◌, ℕ, false, List, [], ◌∷◌, ◌++◌, length, Some, refl}
-use Rattle.std.proofs.Common.{sym, ap, subst, ◌∙◌, inl, inr, arith}
-use Rattle.std.proofs.lemmas.Bool.{cases_lt, false≢true}
-use Rattle.std.proofs.lemmas.List.{get_or-replicate, get_or_past}
+use Rattle.std.specs.Prelude.{◌≡◌, ◌≢◌, ◌+◌, ◌/◌, ◌<◌, ◌≤◌, ◌⊎◌, ℕ, false, List, [], ◌∷◌, ◌++◌, Some}
+use Rattle.std.proofs.Common.{ap, ◌∙◌, inl, inr, arith}
+use Rattle.std.proofs.lemmas.Bool.{false≢true}
 use Rattle.blk_base.specs.Members.{In}
 use Rattle.blk_base.specs.laws.Members.{In-append_cases}
 use Rattle.minix_layout.specs.declared.division.Geometry.{Geometry}
 use Rattle.minix_layout.specs.declared.inode.Inode.{Inode}
-use Rattle.minix_layout.specs.Inodes.{FitInode, zero_inode}
+use Rattle.minix_layout.specs.Inodes.{zero_inode}
 use Rattle.tree_model.specs.Maps.{at_number}
 use Rattle.volume_ops.specs.Places.{table_block, is_file, is_directory}
 use Rattle.volume_ops.specs.Volume.{disk_of}
@@ -22,6 +21,7 @@ use Rattle.volume_model.specs.Volume.{IsPart}
 use Rattle.volume_model.specs.laws.Changes.{changes_bit, changes_then, table_below}
 use Rattle.volume_model.specs.laws.Edits.{inode_here, edited_elsewhere}
 use Rattle.volume_model.specs.laws.MapBlock.{changes_wider}
+use Rattle.volume_model.specs.laws.Removed.{zero_fits}
 use Rattle.volume_steps.specs.Now.{VolumeNow, written}
 use Rattle.volume_steps.specs.Plain.{IsInUse}
 use Rattle.volume_steps.specs.Steps.{drop_edits}
@@ -30,21 +30,6 @@ use Rattle.volume_steps.proofs.Bits.{ChangesNone, AreZones, bits_change}
 use Rattle.clean_volumes.proofs.ChangedLemmas.Ends.{bits_told}
 
 -- ---- a node goes
-
-zero_fits : FitInode zero_inode
-zero_fits = record {
-  mode = omega arith;
-  uid = omega arith;
-  size = omega arith;
-  time = omega arith;
-  gid = omega arith;
-  links = omega arith;
-  nine = refl;
-  zones = λ k. elim (cases_lt k 9) [
-    | inl low ↦ subst (λ z. z < 2 ^ 16) (sym (get_or-replicate 9 k 0 0 low)) (omega arith)
-    | inr high ↦ subst (λ z. z < 2 ^ 16) (sym (get_or_past zero_inode.zones k 0 (let nine : length zero_inode.zones ≡ 9 = refl in omega arith))) (omega arith)
-  ];
-}
 
 -- a node is a directory or a file, and no inode of zeros is
 pub no_zero : (g : Geometry) (blocks : List (List ℕ)) (i : Inode) (part : Part) → IsPart g blocks i part → zero_inode ≢ i

@@ -15,9 +15,8 @@ use Rattle.tree_model.specs.laws.MapOrder.{at_without_apart}
 use Rattle.tree_model.specs.laws.MapsLaws.{at_put_number_apart}
 use Rattle.tree_model.specs.Plain.{IsPlain, AreBornBefore}
 use Rattle.tree_model.specs.Trees.{is_directory}
-use Rattle.tree_model.specs.Calls.{Tree, Done, Place, Found, Move, outcome, directory_zones, used_zones, slots_with, with_name, without_name, is_full, stays, moves_directory, changes_parent}
+use Rattle.tree_model.specs.Calls.{Tree, Done, Place, Found, Move, outcome, used_zones, with_name, stays, moves_directory, changes_parent}
 use Rattle.tree_model.proofs.Hanging.{IsGoodName}
-use Rattle.tree_model.proofs.Blocks.{target_stands}
 use Rattle.volume_model.specs.declared.placed.Placed.{Placed}
 use Rattle.volume_model.specs.declared.placed.DirectoryPart.{DirectoryPart}
 use Rattle.volume_model.specs.Trees.{directory_from}
@@ -29,11 +28,11 @@ use Rattle.volume_steps.proofs.Taking.{frees}
 use Rattle.volume_steps.proofs.NameGoes.{name_goes_is}
 use Rattle.volume_steps.proofs.QuietSteps.{at_node_is}
 use Rattle.volume_steps.proofs.StepsTo.{StepsTo, joined, links_at}
-use Rattle.volume_steps.proofs.CallPaths.{DirectoryAt, directory_at, good_no_dot}
+use Rattle.volume_steps.proofs.CallPaths.{DirectoryAt, good_no_dot}
 use Rattle.volume_steps.proofs.Marked.{number_goes}
-use Rattle.volume_steps.proofs.LinkCall.{FileAt, file_found}
-use Rattle.volume_steps.proofs.SlotChanges.{name_led, name_is_led, lead_name_is}
-use Rattle.volume_steps.proofs.RenameTree.{Renames, named_tree, What, a_dir, a_fil, what, Met, none_met, file_met, itself, met, to_taken, moved_taken, order_taken, after_sorted, still_free, still_met, moves_only, same_directory}
+use Rattle.volume_steps.proofs.LinkCall.{FileAt}
+use Rattle.volume_steps.proofs.SlotChanges.{lead_name_is}
+use Rattle.volume_steps.proofs.RenameTree.{Renames, What, a_dir, a_fil, what, Met, none_met, file_met, itself, met, same_directory}
 use Rattle.volume_steps.proofs.RenameTree.What.{a_dir, a_fil}
 use Rattle.volume_steps.proofs.RenameTree.Met.{none_met, file_met, itself}
 use Rattle.volume_model.specs.Edits.{touched_by}
@@ -44,7 +43,7 @@ use Rattle.volume_steps.proofs.TakeZones.{zone_range}
 use Rattle.clean_volumes.proofs.ChangedLemmas.Drops.{no_zero, drop_zero, drop_high, drop_told}
 use Rattle.clean_volumes.proofs.ChangedLemmas.Ends.{freed_bit, gone_bit, inode_differs, Ends, node_differs, told_differs}
 use Rattle.clean_volumes.proofs.ChangedLemmas.Links.{links_set, links_is, links_stands, links_told, others_zones}
-use Rattle.volume_steps.proofs.RenameCall.{node_at}
+use Rattle.volume_steps.proofs.RenameCall as call
 use Rattle.std.specs.List.{slice_get}
 use Rattle.std.proofs.lemmas.List.{length-set}
 use Rattle.blk_base.specs.laws.Members.{In-append_cases, slice_get-set_same, slice_get-set_other, slice_get-length}
@@ -80,29 +79,26 @@ module _ (tx : ℕ) (v : VolumeNow) (h : IsPlainNow v) (n : ℕ) (before : AreBo
     (done : outcome (room_of v.geometry) (tree_of_now v) n (calls.Rename path other) ≡ Ok d) (enough : used_zones d.tree - used_zones (tree_of_now v) ≤ frees v.zones) where
   -- ---- what `RenameStart` has of the call
 
-  abbrev tree : Tree
-  tree = start.tree tx v h n before path other d done enough
-
   abbrev plain : IsPlain (tree_of_now v)
-  plain = start.plain tx v h n before path other d done enough
+  plain = call.plain tx v h n before path other d done enough
 
   abbrev r : Renames (tree_of_now v) path other d
-  r = start.r tx v h n before path other d done enough
+  r = call.r tx v h n before path other d done enough
 
   abbrev from : Place
-  from = start.from tx v h n before path other d done enough
+  from = call.from tx v h n before path other d done enough
 
   abbrev to : Place
-  to = start.to tx v h n before path other d done enough
+  to = call.to tx v h n before path other d done enough
 
   abbrev birth : ℕ
-  birth = start.birth tx v h n before path other d done enough
+  birth = call.birth tx v h n before path other d done enough
 
   abbrev m : Move
-  m = start.m tx v h n before path other d done enough
+  m = call.m tx v h n before path other d done enough
 
   abbrev after : Place
-  after = start.after tx v h n before path other d done enough
+  after = call.after tx v h n before path other d done enough
 
   abbrev by_move : Bool → Change
   by_move = start.by_move tx v h n before path other d done enough
@@ -111,46 +107,37 @@ module _ (tx : ℕ) (v : VolumeNow) (h : IsPlainNow v) (n : ℕ) (before : AreBo
   by_target = start.by_target tx v h n before path other d done enough
 
   abbrev taken_tree : Tree
-  taken_tree = start.taken_tree tx v h n before path other d done enough
+  taken_tree = call.taken_tree tx v h n before path other d done enough
 
   abbrev from_stands : at_number (tree_of_now v) from.parent ≡ Some (nodes.Directory from.directory)
-  from_stands = start.from_stands tx v h n before path other d done enough
-
-  abbrev to_stands : at_number (tree_of_now v) to.parent ≡ Some (nodes.Directory to.directory)
-  to_stands = start.to_stands tx v h n before path other d done enough
+  from_stands = call.from_stands tx v h n before path other d done enough
 
   abbrev gives : at_name from.directory.names from.name ≡ Some birth
-  gives = start.gives tx v h n before path other d done enough
+  gives = call.gives tx v h n before path other d done enough
 
   abbrev far_to : birth ≢ to.parent
-  far_to = start.far_to tx v h n before path other d done enough
+  far_to = call.far_to tx v h n before path other d done enough
 
   abbrev good : IsGoodName to.name
-  good = start.good tx v h n before path other d done enough
+  good = call.good tx v h n before path other d done enough
 
   abbrev to_short : length to.name ≤ v.geometry.width
-  to_short = start.to_short tx v h n before path other d done enough
+  to_short = call.to_short tx v h n before path other d done enough
 
   abbrev entry : (u : VolumeNow) → IsInUse u → length to.name ≤ u.geometry.width → (p : Placed) → at_number u.contents.nodes birth ≡ Some p → IsEntry u.geometry.width (record { inode = p.number; name = to.name })
-  entry = start.entry tx v h n before path other d done enough
+  entry = call.entry tx v h n before path other d done enough
 
   abbrev less : Change
-  less = start.less tx v h n before path other d done enough
+  less = call.less tx v h n before path other d done enough
 
   abbrev v1 : VolumeNow
-  v1 = start.v1 tx v h n before path other d done enough
+  v1 = call.v1 tx v h n before path other d done enough
 
   abbrev first : StepsTo tx v less taken_tree (links_at v.contents.nodes)
-  first = start.first tx v h n before path other d done enough
-
-  abbrev used_taken : used_zones taken_tree ≡ used_zones (tree_of_now v)
-  used_taken = start.used_taken tx v h n before path other d done enough
-
-  abbrev left_now : m.target ≡ None → is_full after.directory ≡ false
-  left_now = start.left_now tx v h n before path other d done enough
+  first = call.first tx v h n before path other d done enough
 
   abbrev rename_by : rename v tx path other ≡ renamed v tx m
-  rename_by = start.rename_by tx v h n before path other d done enough
+  rename_by = call.rename_by tx v h n before path other d done enough
 
   abbrev F : DirectoryAt v from.parent from.directory
   F = start.F tx v h n before path other d done enough
@@ -199,36 +186,21 @@ module _ (tx : ℕ) (v : VolumeNow) (h : IsPlainNow v) (n : ℕ) (before : AreBo
   -- ---- where no node has the new name: a file, or a directory that keeps its parent
 
   module _ (not_same : stays m ≡ false) (none : m.target ≡ None) (unnamed : at_name to.directory.names to.name ≡ None) (within : (moves_directory m && changes_parent m) ≡ false) where
-    final : named_tree (tree_of_now v) plain path other d r taken_tree ≡ d.tree
-    final = moves_only (tree_of_now v) plain path other d r not_same none within
+    abbrev x1 : DirectoryAt v1 to.parent after.directory
+    x1 = call.x1 tx v h n before path other d done enough not_same none unnamed within
 
-    there1 : at_number taken_tree to.parent ≡ Some (nodes.Directory after.directory)
-    there1 = to_taken (tree_of_now v) plain path other d r
-
-    x1 : DirectoryAt v1 to.parent after.directory
-    x1 = directory_at v1 to.parent after.directory (ap (λ tree. at_number tree to.parent) first.tree_is ∙ there1)
-
-    c1 : (p : Placed) × (at_number v1.contents.nodes birth ≡ Some p)
-    c1 = node_at v1 birth r.found.node (ap (λ tree. at_number tree birth) first.tree_is ∙ moved_taken (tree_of_now v) plain path other d r)
-
-    free1 : at_name x1.part.names to.name ≡ None
-    free1 = ap (λ (d : Directory). at_name d.names to.name) x1.same ∙ still_free (tree_of_now v) plain path other d r unnamed
-
-    left1 : is_full (directory_from x1.part) ≡ false
-    left1 = ap is_full x1.same ∙ left_now none
-
-    more1 : directory_zones x1.part.width (slots_with (directory_from x1.part) to.name) ≤ directory_zones x1.part.width (length x1.part.slots) + frees v1.zones
-    more1 = start.fits tx v h n before path other d done enough v1 taken_tree first.tree_is first.steady.in_use (order_taken (tree_of_now v) plain path other d r) used_taken refl there1 final x1
+    abbrev c1 : (p : Placed) × (at_number v1.contents.nodes birth ≡ Some p)
+    c1 = call.c1 tx v h n before path other d done enough not_same none unnamed within
 
     abbrev named : Change
-    named = add_name v1 to.parent to.name birth
+    named = call.named tx v h n before path other d done enough not_same none unnamed within
 
     abbrev slot : Slot
     slot = record { inode = c1.0.number; name = to.name }
 
     comes : IsAdded v1 to.parent x1.placed x1.part slot birth named
-    comes = name_added tx v1 first.steady.in_use to.parent x1.placed x1.stands x1.part x1.is to.name birth c1.0 c1.1 far_to free1 (good_no_dot to.name good)
-        (entry v1 first.steady.in_use to_short c1.0 c1.1) first.settled first.slotted left1 more1
+    comes = name_added tx v1 first.steady.in_use to.parent x1.placed x1.stands x1.part x1.is to.name birth c1.0 c1.1 far_to (call.free1 tx v h n before path other d done enough not_same none unnamed within) (good_no_dot to.name good)
+        (entry v1 first.steady.in_use to_short c1.0 c1.1) first.settled first.slotted (call.left1 tx v h n before path other d done enough not_same none unnamed within) (call.more1 tx v h n before path other d done enough not_same none unnamed within)
 
     abbrev added : IsNamed v1 to.parent x1.placed x1.part slot birth named
     added = comes.named
@@ -327,58 +299,36 @@ module _ (tx : ℕ) (v : VolumeNow) (h : IsPlainNow v) (n : ℕ) (before : AreBo
 
   -- ---- a file gets the name of another one
 
-  module _ (not_same : stays m ≡ false) (t : Found) (f : File) (target : m.target ≡ Some t) (is : t.node ≡ nodes.File f) (led_to : at_name to.directory.names to.name ≡ Some t.birth) (apart : t.birth ≢ birth) where
-    abbrev met_tree : Tree
-    met_tree = named_tree (tree_of_now v) plain path other d r taken_tree
+  module _ (not_same : stays m ≡ false) (t : Found) (f : File) (target : m.target ≡ Some t) (is : t.node ≡ nodes.File f) (led_to : at_name to.directory.names to.name ≡ Some t.birth) (apart : t.birth ≢ birth) (g : File) (file : r.found.node ≡ nodes.File g) where
+    abbrev t_far_from : t.birth ≢ from.parent
+    t_far_from = call.t_far_from tx v h n before path other d done enough not_same t f target is led_to apart g file
 
-    there : at_number (tree_of_now v) t.birth ≡ Some (nodes.File f)
-    there = target_stands (tree_of_now v) to t target ∙ ap Some is
+    abbrev t_far_to : t.birth ≢ to.parent
+    t_far_to = call.t_far_to tx v h n before path other d done enough not_same t f target is led_to apart g file
 
-    t_far_from : t.birth ≢ from.parent
-    t_far_from e = cc (sym from_stands ∙ (ap (at_number (tree_of_now v)) (sym e) ∙ there))
+    abbrev m1 : DirectoryAt v1 to.parent after.directory
+    m1 = call.m1 tx v h n before path other d done enough not_same t f target is led_to apart g file
 
-    t_far_to : t.birth ≢ to.parent
-    t_far_to e = cc (sym to_stands ∙ (ap (at_number (tree_of_now v)) (sym e) ∙ there))
+    abbrev moved1 : (p : Placed) × (at_number v1.contents.nodes birth ≡ Some p)
+    moved1 = call.moved1 tx v h n before path other d done enough not_same t f target is led_to apart g file
 
-    m1 : DirectoryAt v1 to.parent after.directory
-    m1 = directory_at v1 to.parent after.directory (ap (λ tree. at_number tree to.parent) first.tree_is ∙ to_taken (tree_of_now v) plain path other d r)
+    abbrev found1 : at_name m1.part.names to.name ≡ Some t.birth
+    found1 = call.found1 tx v h n before path other d done enough not_same t f target is led_to apart g file
 
-    moved1 : (p : Placed) × (at_number v1.contents.nodes birth ≡ Some p)
-    moved1 = node_at v1 birth r.found.node (ap (λ tree. at_number tree birth) first.tree_is ∙ moved_taken (tree_of_now v) plain path other d r)
+    abbrev sorted1 : IsStrictlySortedBy name_cmp (keys_of m1.part.names)
+    sorted1 = call.sorted1 tx v h n before path other d done enough not_same t f target is led_to apart g file
 
-    still : at_name after.directory.names to.name ≡ Some t.birth
-    still = still_met (tree_of_now v) plain path other d r t.birth led_to apart
-
-    found1 : at_name m1.part.names to.name ≡ Some t.birth
-    found1 = ap (λ (d : Directory). at_name d.names to.name) m1.same ∙ still
-
-    sorted1 : IsStrictlySortedBy name_cmp (keys_of m1.part.names)
-    sorted1 = subst (λ (d : Directory). IsStrictlySortedBy name_cmp (keys_of d.names)) (sym m1.same) (after_sorted (tree_of_now v) plain path other d r)
-
-    -- the name leads to the file
     abbrev led : Change
-    led = name_led tx v1 first.steady.in_use first.settled first.slotted to.parent m1.placed m1.stands m1.part m1.is to.name t.birth found1 sorted1 birth moved1.0 moved1.1 (entry v1 first.steady.in_use to_short moved1.0 moved1.1)
+    led = call.led tx v h n before path other d done enough not_same t f target is led_to apart g file
 
     abbrev w2 : VolumeNow
-    w2 = led.volume
+    w2 = call.w2 tx v h n before path other d done enough not_same t f target is led_to apart g file
 
-    met2 : StepsTo tx v1 led (put_number (tree_of_now v1) to.parent (nodes.Directory (with_name (directory_from m1.part) to.name birth))) (links_at v1.contents.nodes)
-    met2 = name_is_led tx v1 first.steady.in_use first.settled first.slotted to.parent m1.placed m1.stands m1.part m1.is to.name t.birth found1 sorted1 birth moved1.0 moved1.1 (entry v1 first.steady.in_use to_short moved1.0 moved1.1)
+    abbrev met2 : StepsTo tx v1 led (put_number (tree_of_now v1) to.parent (nodes.Directory (with_name (directory_from m1.part) to.name birth))) (links_at v1.contents.nodes)
+    met2 = call.met2 tx v h n before path other d done enough not_same t f target is led_to apart g file
 
-    tree_met : tree_of_now w2 ≡ met_tree
-    tree_met = met2.tree_is
-        ∙ (ap (λ tree. put_number tree to.parent (nodes.Directory (with_name (directory_from m1.part) to.name birth))) first.tree_is
-        ∙ ap (λ directory. put_number taken_tree to.parent (nodes.Directory (with_name directory to.name birth))) m1.same)
-
-    met_stands : at_number met_tree t.birth ≡ Some (nodes.File f)
-    met_stands = at_put_number_apart taken_tree to.parent (nodes.Directory (with_name after.directory to.name birth)) t.birth t_far_to
-        ∙ (at_put_number_apart (tree_of_now v) from.parent (nodes.Directory (without_name from.directory from.name)) t.birth t_far_from ∙ there)
-
-    w2_stands : at_number (tree_of_now w2) t.birth ≡ Some (nodes.File f)
-    w2_stands = ap (λ tree. at_number tree t.birth) tree_met ∙ met_stands
-
-    y2 : FileAt w2 t.birth f
-    y2 = file_found w2 t.birth f w2_stands
+    abbrev y2 : FileAt w2 t.birth f
+    y2 = call.y2 tx v h n before path other d done enough not_same t f target is led_to apart g file
 
     -- its slot
     abbrev k1 : ℕ
@@ -630,7 +580,7 @@ module _ (tx : ℕ) (v : VolumeNow) (h : IsPlainNow v) (n : ℕ) (before : AreBo
       by : stays m ≡ false → Met (tree_of_now v) plain path other d r → HasChanged v (rename v tx path other)
       by not_same (itself e) = same_changes e
       by not_same (none_met none unnamed) = free not_same none unnamed (what (tree_of_now v) plain path other d r)
-      by not_same (file_met t f target is led_to apart) = replace_changes not_same t f target is led_to apart ends
+      by not_same (file_met t f target is led_to apart) = (let w = call.file_moves tx v h n before path other d done enough t f target is in replace_changes not_same t f target is led_to apart w.0 w.1 ends)
 
   -- The volume stays bare.
   pub rename_bare : ((z : ℕ) → In z (rename v tx path other).touched.freed → (v.geometry.first ≤ z) × (z < v.geometry.zones)) → IsBareNow v → IsBareNow (rename v tx path other).volume
@@ -655,4 +605,4 @@ module _ (tx : ℕ) (v : VolumeNow) (h : IsPlainNow v) (n : ℕ) (before : AreBo
       by : stays m ≡ false → Met (tree_of_now v) plain path other d r → IsBareNow (rename v tx path other).volume
       by not_same (itself e) = same_bare e
       by not_same (none_met none unnamed) = free not_same none unnamed (what (tree_of_now v) plain path other d r)
-      by not_same (file_met t f target is led_to apart) = replace_bare not_same t f target is led_to apart in_zones bare
+      by not_same (file_met t f target is led_to apart) = (let w = call.file_moves tx v h n before path other d done enough t f target is in replace_bare not_same t f target is led_to apart w.0 w.1 in_zones bare)

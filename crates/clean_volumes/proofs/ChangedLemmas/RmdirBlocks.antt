@@ -1,22 +1,20 @@
 -- The blocks of a call that removes a directory.
-use Rattle.std.specs.Prelude.{◌≡◌, ◌≢◌, ◌⊎◌, ◌-◌, ◌+◌, ◌/◌, ◌≤◌, ◌==◌, ℕ, Bool, true, false, not, List, [], ◌∷◌, ◌++◌, length, Option, Some, Ok, refl}
+use Rattle.std.specs.Prelude.{◌≡◌, ◌≢◌, ◌⊎◌, ◌-◌, ◌+◌, ◌/◌, ◌≤◌, ℕ, false, List, ◌++◌, Some, Ok, refl}
 use Rattle.std.proofs.Common.{sym, ap, subst, ◌∙◌, inl, inr, arith}
-use Rattle.std.proofs.lemmas.Bool.{eqb-true}
-use Rattle.std.proofs.lemmas.Option.{none-some, same_Some}
+use Rattle.std.proofs.lemmas.Option.{same_Some}
 use Rattle.blk_base.specs.Members.{In}
 use Rattle.blk_base.specs.laws.Members.{In-append_cases}
 use Rattle.minix_layout.specs.declared.division.Geometry.{Geometry}
 use Rattle.minix_layout.specs.declared.inode.Inode.{Inode}
 use Rattle.tree_model.specs.declared.call.Call.TheVariants as calls
 use Rattle.tree_model.specs.declared.call.Reply.TheVariants as replies
-use Rattle.tree_model.specs.declared.node.Node.{Node}
 use Rattle.tree_model.specs.declared.node.Node.TheVariants as nodes
 use Rattle.tree_model.specs.declared.node.Directory.{Directory}
 use Rattle.tree_model.specs.Maps.{at_number, at_name}
 use Rattle.tree_model.specs.laws.MapOrder.{at_without_apart}
 use Rattle.tree_model.specs.laws.MapsLaws.{at_put_number, at_put_number_apart}
 use Rattle.tree_model.specs.Calls.{Done, Place, outcome, take_name, without_name}
-use Rattle.tree_model.proofs.Rows.{IsFound, walk_ok, IsPlace, parent_ok, place_names}
+use Rattle.tree_model.proofs.Rows.{IsPlace}
 use Rattle.volume_ops.specs.Places.{table_block}
 use Rattle.volume_ops.specs.Volume.{disk_of}
 use Rattle.volume_model.specs.declared.placed.Placed.{Placed}
@@ -30,44 +28,31 @@ use Rattle.volume_steps.specs.Called.{FindsRoom}
 use Rattle.volume_steps.specs.Plain.{IsInUse}
 use Rattle.volume_steps.specs.Zones.{zone_bit}
 use Rattle.volume_steps.proofs.Bits.{AreZones}
-use Rattle.volume_steps.proofs.CallPaths.{DirectoryAt, directory_at, done_row, at_place_is, at_path_is}
+use Rattle.volume_steps.proofs.CallPaths.{DirectoryAt, directory_at, at_place_is, at_path_is}
 use Rattle.volume_steps.proofs.FileCalls.{called_is}
 use Rattle.volume_steps.proofs.Marked.{number_goes}
 use Rattle.volume_steps.proofs.NameGoes.{x, named, sorted, name_goes, name_goes_is, name_goes_step}
 use Rattle.volume_steps.proofs.QuietSteps.{at_node_is, linked, linked_steady, set_links_is}
 use Rattle.volume_steps.proofs.StepsTo.{StepsTo, joined, links_at}
 use Rattle.volume_steps.proofs.TakeZones.{zone_range}
-use Rattle.volume_steps.proofs.RmdirCall.{Rmdirs, rmdirs}
+use Rattle.volume_steps.proofs.RmdirCall as call
+use Rattle.volume_steps.proofs.RmdirCall.{Rmdirs}
 use Rattle.minix_tables.specs.declared.zones.zone_state.ZoneState.TheVariants as states
 use Rattle.clean_volumes.specs.changed.Changed.{HasChanged}
 use Rattle.clean_volumes.proofs.ChangedLemmas.Ends.{Ends, freed_bit, gone_bit, inode_differs, node_differs, told_differs}
 use Rattle.clean_volumes.proofs.ChangedLemmas.Drops.{no_zero, drop_zero, drop_high, drop_told}
-use Rattle.clean_volumes.proofs.ChangedLemmas.Steps.{back_high, slot_zone, slot_range, take_told, take_differs}
+use Rattle.clean_volumes.proofs.ChangedLemmas.Steps.{back_high, take_changed}
 use Rattle.volume_steps.proofs.AllCalls.{any_call}
 use Rattle.clean_volumes.proofs.ChangedLemmas.BareFrames.{IsBareNow}
 use Rattle.clean_volumes.proofs.ChangedLemmas.BareNodes.{drop_bare}
 use Rattle.clean_volumes.proofs.ChangedLemmas.BareSteps.{take_bare, links_bare}
 
-no_names : (d : Directory) → not (length d.names == 0) ≡ false → d.names ≡ []
-no_names d e = by d.names e
-  where
-    sure : (b : Bool) → not b ≡ false → b ≡ true
-    sure true e = refl
-    sure false e = sym e
-
-    by : (names : List (List ℕ × ℕ)) → not (length names == 0) ≡ false → names ≡ []
-    by [] e = refl
-    by (name ∷ names) e = absurd (let none = eqb-true (length (name ∷ names)) 0 (sure _ e) in omega arith)
-
-directory_same : (d e : Directory) → ◌≡◌ {A = Option Node} (Some (nodes.Directory d)) (Some (nodes.Directory e)) → d ≡ e
-directory_same d e same = cc
-
 module _ (tx : ℕ) (v : VolumeNow) (n : ℕ) (path : List ℕ) (h : FindsRoom v n (calls.Rmdir path)) (d : Done) (done : outcome (room_of v.geometry) (tree_of_now v) n (calls.Rmdir path) ≡ Ok d) where
   abbrev g : Geometry
   g = v.geometry
 
-  said : Rmdirs v path d
-  said = rmdirs v n path d (done_row (room_of v.geometry) (tree_of_now v) n (calls.Rmdir path) d done).0
+  abbrev said : Rmdirs v path d
+  said = call.said tx v h.plain n h.born path d done
 
   abbrev place : Place
   place = said.place
@@ -75,25 +60,20 @@ module _ (tx : ℕ) (v : VolumeNow) (n : ℕ) (path : List ℕ) (h : FindsRoom v
   abbrev birth : ℕ
   birth = said.found.birth
 
-  is_place : IsPlace (tree_of_now v) said.names place
-  is_place = parent_ok replies.Invalid (tree_of_now v) said.names place said.parent
+  abbrev is_place : IsPlace (tree_of_now v) said.names place
+  is_place = call.is_place tx v h.plain n h.born path d done
 
-  is_found : IsFound (tree_of_now v) said.names said.found
-  is_found = walk_ok (tree_of_now v) said.names said.found said.walked
+  abbrev stands : at_number (tree_of_now v) birth ≡ Some (nodes.Directory said.directory)
+  stands = call.stands tx v h.plain n h.born path d done
 
-  stands : at_number (tree_of_now v) birth ≡ Some (nodes.Directory said.directory)
-  stands = is_found.stands ∙ ap Some said.is_directory
+  abbrev y : DirectoryAt v birth said.directory
+  y = call.y tx v h.plain n h.born path d done
 
-  y : DirectoryAt v birth said.directory
-  y = directory_at v birth said.directory stands
+  abbrev gives : at_name place.directory.names place.name ≡ Some birth
+  gives = call.gives tx v h.plain n h.born path d done
 
-  gives : at_name place.directory.names place.name ≡ Some birth
-  gives = place_names (tree_of_now v) said.names place said.found is_place is_found
-
-  apart : birth ≢ place.parent
-  apart e =
-      let same : said.directory ≡ place.directory = directory_same said.directory place.directory (sym stands ∙ (ap (at_number (tree_of_now v)) e ∙ is_place.stands)) in
-      none-some birth (sym (ap (λ names. at_name names place.name) (no_names said.directory said.empty)) ∙ (ap (λ (d : Directory). at_name d.names place.name) same ∙ gives))
+  abbrev apart : birth ≢ place.parent
+  apart = call.apart tx v h.plain n h.born path d done
 
   abbrev parent : DirectoryAt v place.parent place.directory
   parent = x tx v h.plain place birth is_place.stands gives
@@ -109,17 +89,9 @@ module _ (tx : ℕ) (v : VolumeNow) (n : ℕ) (path : List ℕ) (h : FindsRoom v
   first : StepsTo tx v less (take_name (tree_of_now v) place) (links_at v.contents.nodes)
   first = name_goes_step tx v h.plain place birth is_place.stands gives
 
-  abbrev slot_block : ℕ
-  slot_block = slot_zone tx v h.plain.in_use place.parent parent.placed parent.stands parent.part parent.is place.name birth (named tx v h.plain place birth is_place.stands gives) (sorted tx v h.plain place birth is_place.stands gives)
-
-  slot_low : g.first ≤ slot_block
-  slot_low = (slot_range tx v h.plain.in_use place.parent parent.placed parent.stands parent.part parent.is place.name birth (named tx v h.plain place birth is_place.stands gives) (sorted tx v h.plain place birth is_place.stands gives)).0
-
-  slot_told : (b : ℕ) → In b less.touched.blocks → b ≡ slot_block
-  slot_told = take_told tx v h.plain.in_use place.parent parent.placed parent.stands parent.part parent.is place.name birth (named tx v h.plain place birth is_place.stands gives) (sorted tx v h.plain place birth is_place.stands gives)
-
-  slot_differs : disk_of v1.contents.blocks slot_block ≢ disk_of v.contents.blocks slot_block
-  slot_differs = take_differs tx v h.plain.in_use place.parent parent.placed parent.stands parent.part parent.is place.name birth (named tx v h.plain place birth is_place.stands gives) (sorted tx v h.plain place birth is_place.stands gives)
+  -- the block of its slot, where no zone of data changes after the name went
+  slot_changed : (after : List (List ℕ)) → ((b : ℕ) → g.first ≤ b → disk_of after b ≡ disk_of v1.contents.blocks b) → (b : ℕ) → In b less.touched.blocks → disk_of after b ≢ disk_of v.contents.blocks b
+  slot_changed = take_changed tx v h.plain.in_use place.parent parent.placed parent.stands parent.part parent.is place.name birth (named tx v h.plain place birth is_place.stands gives) (sorted tx v h.plain place birth is_place.stands gives)
 
   -- ---- the parent has one link less
 
@@ -176,7 +148,7 @@ module _ (tx : ℕ) (v : VolumeNow) (n : ℕ) (path : List ℕ) (h : FindsRoom v
 
   gone_changes : Ends tx v (joined less (joined unlinked gone)) → HasChanged v (joined less (joined unlinked gone))
   gone_changes e b i was = elim (In-append_cases less.touched.blocks (unlinked.touched.blocks ++ gone.touched.blocks) b i) [
-    | inl j ↦ moved slot_block b (sym (slot_told b j)) (λ same. slot_differs (sym (high2 slot_block slot_low) ∙ (sym (high3 slot_block slot_low) ∙ same)))
+    | inl j ↦ slot_changed gone.volume.contents.blocks (λ b low. high3 b low ∙ high2 b low) b j
     | inr more ↦ elim (In-append_cases unlinked.touched.blocks gone.touched.blocks b more) [
       | inl j ↦ moved (table_block g parent.placed.number) b (sym (told_table g x1.placed now b j ∙ ap (table_block g) number1))
           (node_differs tx v (joined less (joined unlinked gone)) e place.parent parent.placed (record { number = x1.placed.number; inode = now; part = x1.placed.part }) parent.stands left number1 (fewer b j))

@@ -55,13 +55,13 @@ module _ (tx : ℕ) (v : VolumeNow) (in_use : IsInUse v) (n : ℕ) (p : Placed) 
   change = taken tx v in_use n p at d is name birth found sorted
 
   -- the zone in which its slot stands
-  abbrev pub slot_zone : ℕ
+  abbrev slot_zone : ℕ
   slot_zone = zone_in v.contents.blocks p.inode (block (place / slots_a_block g.width))
 
   part : IsDirectoryPart g v.contents.blocks p.inode d
   part = subst (IsPart g v.contents.blocks p.inode) is (in_use.volume.0.each n p at).part
 
-  pub slot_range : (g.first ≤ slot_zone) × (slot_zone < g.zones)
+  slot_range : (g.first ≤ slot_zone) × (slot_zone < g.zones)
   slot_range = (in_use.volume.0.each n p at).zones (block (place / slots_a_block g.width)) (part.slots place (Some stood.slot) stood.stands).mapped
 
   -- the size stays, so the inode does
@@ -71,11 +71,11 @@ module _ (tx : ℕ) (v : VolumeNow) (in_use : IsInUse v) (n : ℕ) (p : Placed) 
       by : slot_size g.width * length (slice_set d.slots place None) ≡ p.inode.size → with_size p.inode (slot_size g.width * length (slice_set d.slots place None)) ≡ p.inode
       by e = λ i. record { mode = p.inode.mode; uid = p.inode.uid; size = e i; time = p.inode.time; gid = p.inode.gid; links = p.inode.links; zones = p.inode.zones }
 
-  pub take_told : (b : ℕ) → In b change.touched.blocks → b ≡ slot_zone
+  take_told : (b : ℕ) → In b change.touched.blocks → b ≡ slot_zone
   take_told b (inl e) = sym e
   take_told b (inr j) = absurd (told_differs g p _ b j size_same)
 
-  pub take_differs : disk_of change.volume.contents.blocks slot_zone ≢ disk_of v.contents.blocks slot_zone
+  take_differs : disk_of change.volume.contents.blocks slot_zone ≢ disk_of v.contents.blocks slot_zone
   take_differs same =
       let told = in_use.volume.0.each n p at in
       let high = slot_range.1 in
@@ -87,3 +87,7 @@ module _ (tx : ℕ) (v : VolumeNow) (in_use : IsInUse v) (n : ℕ) (p : Placed) 
     where
       free_is_free : (s : Slot) → ◌≡◌ {A = Result (Option Slot) LayoutFault} (Ok None) (Ok (Some s)) → ⊥
       free_is_free s e = cc
+
+  -- the block of its slot differs, where no zone of data changes after the name went
+  pub take_changed : (after : List (List ℕ)) → ((b : ℕ) → g.first ≤ b → disk_of after b ≡ disk_of change.volume.contents.blocks b) → (b : ℕ) → In b change.touched.blocks → disk_of after b ≢ disk_of v.contents.blocks b
+  take_changed after high b i = subst (λ b. disk_of after b ≢ disk_of v.contents.blocks b) (sym (take_told b i)) (λ same. take_differs (sym (high slot_zone slot_range.0) ∙ same))

@@ -1,9 +1,9 @@
 -- The blocks of a call that cuts a file.
-use Rattle.std.specs.Prelude.{◌≡◌, ◌≢◌, ◌+◌, ◌-◌, ◌*◌, take, replicate, length, ◌/◌, ◌%◌, ◌<◌, ◌≤◌, ◌⊎◌, ◌==◌, ◌||◌, nat_le, nat_eq, ℕ, Bool, true, false, if◌then◌else◌, List, [], ◌++◌, Some, Ok, refl}
+use Rattle.std.specs.Prelude.{◌≡◌, ◌≢◌, ◌+◌, ◌-◌, ◌/◌, ◌%◌, ◌<◌, ◌≤◌, ◌⊎◌, ◌==◌, ◌||◌, nat_le, nat_eq, ℕ, Bool, true, false, if◌then◌else◌, List, [], ◌++◌, Some, Ok, refl}
 use Rattle.std.specs.Int.{div_ceil}
 use Rattle.std.specs.List.{list_any}
 use Rattle.std.proofs.Common.{sym, ap, subst, ◌∙◌, inl, inr, ⊎_elim, arith}
-use Rattle.std.proofs.lemmas.Bool.{cases_Bool, eqb-true, eqb-false, or_parts, leb-false}
+use Rattle.std.proofs.lemmas.Bool.{eqb-true, eqb-false, or_parts}
 use Rattle.blk_base.specs.Members.{In}
 use Rattle.blk_base.specs.laws.Members.{In-append_cases, In-append_left}
 use Rattle.minix_layout.specs.declared.division.Geometry.{Geometry}
@@ -46,10 +46,10 @@ use Rattle.clean_volumes.proofs.ChangedLemmas.Ends.{Ends, freed_bit, node_differ
 use Rattle.clean_volumes.proofs.ChangedLemmas.Steps.{back_high}
 use Rattle.clean_volumes.proofs.ChangedLemmas.CutBlocks.{cut_inode, cut_cases, number_meta, number_low, number_differs}
 use Rattle.volume_steps.proofs.AllCalls.{any_call}
+use Rattle.volume_steps.proofs.TruncateCall.{cut_length}
 use Rattle.clean_volumes.proofs.ChangedLemmas.BareFrames.{IsBareNow}
 use Rattle.clean_volumes.proofs.ChangedLemmas.BareSteps.{page_bare, resize_bare}
 use Rattle.clean_volumes.proofs.ChangedLemmas.BareZones.{cut_bare}
-use Rattle.std.proofs.lemmas.List.{length-take, length-append, length-replicate}
 
 -- ---- sizes
 
@@ -110,20 +110,6 @@ module _ (v : VolumeNow) (n : ℕ) (p : Placed) (zones : List Mapped) (at : at_n
           else put_page v n (size / 1024) (zone_in v.contents.blocks p.inode (block (size / 1024))) (cut_body size (size / 1024) (disk_of v.contents.blocks (zone_in v.contents.blocks p.inode (block (size / 1024))))))
       by true = record { nodes = refl; blocks = refl; revoked = refl }
       by false = record { nodes = refl; blocks = refl; revoked = refl }
-
-cut_length : (size index : ℕ) (body : List ℕ) → length body ≡ 1024 → 1024 * index < size → length (cut_body size index body) ≡ 1024
-cut_length size index body whole low = elim (cases_Bool (nat_le (1024 * index + 1024) size)) [
-  | inl y ↦ rw y whole
-  | inr z ↦ rw z (parts_length (leb-false _ _ z))
-]
-  where
-    parts_length : size < 1024 * index + 1024 → length (take (size - 1024 * index) body ++ replicate (1024 - (size - 1024 * index)) 0) ≡ 1024
-    parts_length high =
-        let a = length-append (take (size - 1024 * index) body) (replicate (1024 - (size - 1024 * index)) 0) in
-        let b = length-take (size - 1024 * index) body in
-        let zeros : List ℕ = replicate (1024 - (size - 1024 * index)) 0 in
-        let c : length zeros ≡ 1024 - (size - 1024 * index) = length-replicate (1024 - (size - 1024 * index)) 0 in
-        omega arith
 
 module _ (v : VolumeNow) (h : IsInUse v) (n : ℕ) (p : Placed) (zones : List Mapped) (at : at_number v.contents.nodes n ≡ Some p) (is : p.part ≡ parts.File zones) (size : ℕ) where
   abbrev tail_by : Placed → List Mapped → Change

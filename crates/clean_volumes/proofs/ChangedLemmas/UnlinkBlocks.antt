@@ -7,11 +7,10 @@ use Rattle.blk_base.specs.laws.Members.{In-append_cases}
 use Rattle.minix_layout.specs.declared.division.Geometry.{Geometry}
 use Rattle.tree_model.specs.declared.call.Call.TheVariants as calls
 use Rattle.tree_model.specs.declared.call.Reply.TheVariants as replies
-use Rattle.tree_model.specs.declared.node.Node.TheVariants as nodes
 use Rattle.tree_model.specs.Maps.{at_number, at_name}
 use Rattle.tree_model.specs.laws.MapsLaws.{at_put_number, at_put_number_apart}
 use Rattle.tree_model.specs.Calls.{Done, Place, outcome, take_name}
-use Rattle.tree_model.proofs.Rows.{IsFound, walk_ok, IsPlace, parent_ok, place_names}
+use Rattle.tree_model.proofs.Rows.{IsPlace}
 use Rattle.volume_ops.specs.Places.{table_block}
 use Rattle.volume_ops.specs.Volume.{disk_of}
 use Rattle.volume_model.specs.Edits.{touched_by}
@@ -22,20 +21,21 @@ use Rattle.volume_steps.specs.Calls.{called, changed, lose_link as lose_link_ste
 use Rattle.volume_steps.specs.Called.{FindsRoom}
 use Rattle.volume_steps.specs.Zones.{zone_bit}
 use Rattle.volume_steps.proofs.Bits.{AreZones}
-use Rattle.volume_steps.proofs.CallPaths.{DirectoryAt, done_row, at_place_is, at_path_is}
+use Rattle.volume_steps.proofs.CallPaths.{DirectoryAt, at_place_is, at_path_is}
 use Rattle.volume_steps.proofs.FileCalls.{called_is}
-use Rattle.volume_steps.proofs.LinkCall.{FileAt, file_found}
+use Rattle.volume_steps.proofs.LinkCall.{FileAt}
 use Rattle.volume_steps.proofs.Marked.{number_goes}
 use Rattle.volume_steps.proofs.NameGoes.{x, named, sorted, name_goes, name_goes_is, name_goes_step}
 use Rattle.volume_steps.proofs.QuietSteps.{at_node_is, linked, set_links_is}
 use Rattle.volume_steps.proofs.StepsTo.{StepsTo, joined, links_at}
 use Rattle.volume_steps.proofs.TakeZones.{zone_range}
-use Rattle.volume_steps.proofs.UnlinkCall.{Unlinks, unlinks}
+use Rattle.volume_steps.proofs.UnlinkCall as call
+use Rattle.volume_steps.proofs.UnlinkCall.{Unlinks}
 use Rattle.minix_tables.specs.declared.zones.zone_state.ZoneState.TheVariants as states
 use Rattle.clean_volumes.specs.changed.Changed.{HasChanged}
 use Rattle.clean_volumes.proofs.ChangedLemmas.Ends.{Ends, freed_bit, gone_bit, inode_differs, node_differs, told_differs}
 use Rattle.clean_volumes.proofs.ChangedLemmas.Drops.{no_zero, drop_zero, drop_high, drop_told}
-use Rattle.clean_volumes.proofs.ChangedLemmas.Steps.{back_high, slot_zone, slot_range, take_told, take_differs}
+use Rattle.clean_volumes.proofs.ChangedLemmas.Steps.{back_high, take_changed}
 use Rattle.volume_steps.proofs.AllCalls.{any_call}
 use Rattle.clean_volumes.proofs.ChangedLemmas.BareFrames.{IsBareNow}
 use Rattle.clean_volumes.proofs.ChangedLemmas.BareNodes.{drop_bare}
@@ -45,8 +45,8 @@ module _ (tx : ℕ) (v : VolumeNow) (n : ℕ) (path : List ℕ) (h : FindsRoom v
   abbrev g : Geometry
   g = v.geometry
 
-  said : Unlinks v path d
-  said = unlinks v n path d (done_row (room_of v.geometry) (tree_of_now v) n (calls.Unlink path) d done).0
+  abbrev said : Unlinks v path d
+  said = call.said tx v h.plain n h.born path d done
 
   abbrev place : Place
   place = said.place
@@ -54,23 +54,17 @@ module _ (tx : ℕ) (v : VolumeNow) (n : ℕ) (path : List ℕ) (h : FindsRoom v
   abbrev birth : ℕ
   birth = said.found.birth
 
-  is_place : IsPlace (tree_of_now v) said.names place
-  is_place = parent_ok replies.Invalid (tree_of_now v) said.names place said.parent
+  abbrev is_place : IsPlace (tree_of_now v) said.names place
+  is_place = call.is_place tx v h.plain n h.born path d done
 
-  is_found : IsFound (tree_of_now v) said.names said.found
-  is_found = walk_ok (tree_of_now v) said.names said.found said.walked
+  abbrev y : FileAt v birth said.file
+  y = call.y tx v h.plain n h.born path d done
 
-  file_stands : at_number (tree_of_now v) birth ≡ Some (nodes.File said.file)
-  file_stands = is_found.stands ∙ ap Some said.is_file
+  abbrev apart : birth ≢ place.parent
+  apart = call.apart tx v h.plain n h.born path d done
 
-  y : FileAt v birth said.file
-  y = file_found v birth said.file file_stands
-
-  apart : birth ≢ place.parent
-  apart e = cc (sym is_place.stands ∙ (ap (at_number (tree_of_now v)) (sym e) ∙ file_stands))
-
-  gives : at_name place.directory.names place.name ≡ Some birth
-  gives = place_names (tree_of_now v) said.names place said.found is_place is_found
+  abbrev gives : at_name place.directory.names place.name ≡ Some birth
+  gives = call.gives tx v h.plain n h.born path d done
 
   abbrev parent : DirectoryAt v place.parent place.directory
   parent = x tx v h.plain place birth is_place.stands gives
@@ -90,23 +84,9 @@ module _ (tx : ℕ) (v : VolumeNow) (n : ℕ) (path : List ℕ) (h : FindsRoom v
   few : y.placed.inode.links - 1 ≤ 250
   few = let most = h.plain.plain.few_links birth y.placed y.stands in omega arith
 
-  abbrev slot_block : ℕ
-  slot_block = slot_zone tx v h.plain.in_use place.parent parent.placed parent.stands parent.part parent.is place.name birth (named tx v h.plain place birth is_place.stands gives) (sorted tx v h.plain place birth is_place.stands gives)
-
-  slot_low : g.first ≤ slot_block
-  slot_low = (slot_range tx v h.plain.in_use place.parent parent.placed parent.stands parent.part parent.is place.name birth (named tx v h.plain place birth is_place.stands gives) (sorted tx v h.plain place birth is_place.stands gives)).0
-
-  slot_told : (b : ℕ) → In b less.touched.blocks → b ≡ slot_block
-  slot_told = take_told tx v h.plain.in_use place.parent parent.placed parent.stands parent.part parent.is place.name birth (named tx v h.plain place birth is_place.stands gives) (sorted tx v h.plain place birth is_place.stands gives)
-
-  slot_differs : disk_of v1.contents.blocks slot_block ≢ disk_of v.contents.blocks slot_block
-  slot_differs = take_differs tx v h.plain.in_use place.parent parent.placed parent.stands parent.part parent.is place.name birth (named tx v h.plain place birth is_place.stands gives) (sorted tx v h.plain place birth is_place.stands gives)
-
   -- the block of its slot, where no zone of data changes after the name went
   slot_changed : (after : List (List ℕ)) → ((b : ℕ) → g.first ≤ b → disk_of after b ≡ disk_of v1.contents.blocks b) → (b : ℕ) → In b less.touched.blocks → disk_of after b ≢ disk_of v.contents.blocks b
-  slot_changed after high b i =
-      let one = slot_told b i in
-      subst (λ b. disk_of after b ≢ disk_of v.contents.blocks b) (sym one) (λ same. slot_differs (sym (high slot_block slot_low) ∙ same))
+  slot_changed = take_changed tx v h.plain.in_use place.parent parent.placed parent.stands parent.part parent.is place.name birth (named tx v h.plain place birth is_place.stands gives) (sorted tx v h.plain place birth is_place.stands gives)
 
   -- ---- it keeps another name
 

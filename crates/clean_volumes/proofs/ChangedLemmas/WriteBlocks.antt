@@ -1,8 +1,8 @@
 -- The blocks of a call that writes a file.
-use Rattle.std.specs.Prelude.{◌≡◌, ◌≢◌, ◌≤◌, ◌+◌, ◌-◌, ℕ, nat_eq, nat_lt, Bool, true, false, if◌then◌else◌, List, [], ◌∷◌, length, Some, Ok, refl}
+use Rattle.std.specs.Prelude.{◌≡◌, ◌≢◌, ◌≤◌, ◌+◌, ◌-◌, ℕ, nat_eq, Bool, true, false, if◌then◌else◌, List, [], ◌∷◌, length, Some, Ok, refl}
 use Rattle.std.specs.Map.{keys_of}
 use Rattle.std.proofs.Common.{sym, ap, subst, ◌∙◌, inl, inr, ⊎_elim, arith}
-use Rattle.std.proofs.lemmas.Bool.{cases_Bool, eqb-true, eqb-false, ne_eqb}
+use Rattle.std.proofs.lemmas.Bool.{eqb-true, eqb-false}
 use Rattle.std.proofs.lemmas.Option.{same_Some}
 use Rattle.blk_base.specs.Members.{In}
 use Rattle.blk_base.specs.laws.Members.{In-append_cases}
@@ -14,21 +14,17 @@ use Rattle.tree_model.specs.declared.call.Call.{Call}
 use Rattle.tree_model.specs.declared.node.File.{File}
 use Rattle.tree_model.specs.declared.node.Node.TheVariants as nodes
 use Rattle.tree_model.specs.Maps.{at_number, put_number}
-use Rattle.tree_model.specs.Calls.{Done, outcome, row, write as write_row, patched, written_file, written_blocks, block_or_zeros, touched_blocks, max, largest_size, node_zones, file_zones, used_zones, needs}
+use Rattle.tree_model.specs.Calls.{Done, outcome, row, write as write_row, patched, written_file, written_blocks, block_or_zeros, touched_blocks, max, largest_size, node_zones, used_zones, needs}
 use Rattle.tree_model.proofs.Bytes.{patched_length}
 use Rattle.volume_ops.specs.declared.found.Mapped.{Mapped}
 use Rattle.volume_ops.specs.Places.{table_block}
-use Rattle.volume_ops.specs.Volume.{disk_of, bodies_of}
+use Rattle.volume_ops.specs.Volume.{disk_of}
 use Rattle.volume_model.specs.declared.placed.Placed.{Placed}
 use Rattle.volume_model.specs.declared.placed.Part.TheVariants as parts
-use Rattle.volume_model.specs.Counts.{indices_of, zones_of_file}
-use Rattle.volume_model.specs.Moves.{with_size, with_mapped}
+use Rattle.volume_model.specs.Moves.{with_size}
 use Rattle.volume_model.specs.Touched.{IsMeta}
 use Rattle.volume_model.specs.Touched.IsMeta.{of_numbers}
 use Rattle.volume_model.specs.Volume.{Place, block, indirect, double, inner, zone_in}
-use Rattle.volume_model.specs.laws.Counts.{count_map}
-use Rattle.volume_model.specs.laws.Indexed.{file_indexed, keys_bodies}
-use Rattle.volume_model.specs.laws.Mapped.{zones_mapped}
 use Rattle.volume_model.specs.laws.Zones.{zones_kept}
 use Rattle.minix_tables.specs.declared.zones.zone_state.ZoneState.TheVariants as states
 use Rattle.minix_tables.specs.zones.Zones.{state_of}
@@ -41,13 +37,13 @@ use Rattle.volume_steps.specs.Called.{FindsRoom}
 use Rattle.volume_steps.proofs.CallPaths.{done_row}
 use Rattle.volume_steps.proofs.FileCalls.{needs_is}
 use Rattle.volume_steps.proofs.FileSteps.{IsFileAt, file_at, at_file_is, file_stands}
-use Rattle.volume_steps.proofs.Files.{file_zones_are, put_twice}
+use Rattle.volume_steps.proofs.Files.{put_twice}
 use Rattle.volume_steps.proofs.PageStep.{page_step}
 use Rattle.volume_steps.proofs.Taking.{frees, uses}
-use Rattle.volume_steps.proofs.TakeZones.{holes_counted}
 use Rattle.volume_steps.proofs.TreeSteps.{tree_in_order, used_put_more}
 use Rattle.volume_steps.proofs.WriteCall.{IsFilePut, at_path_is, file_put, touched_among, put}
-use Rattle.volume_steps.proofs.WriteSteps.{IsWriteStep, IsAmong, AreAt, with_block, with_blocks, none_at, block_written, blocks_written, room_same, written_length, written_any, zones_less}
+use Rattle.volume_steps.proofs.WriteSteps as steps
+use Rattle.volume_steps.proofs.WriteSteps.{IsWriteStep, IsAmong, AreAt, with_block, with_blocks, block_written, blocks_written, room_same, written_length, written_any, zones_less}
 use Rattle.clean_volumes.specs.changed.Changed.{HasChanged}
 use Rattle.clean_volumes.proofs.ChangedLemmas.Ends.{Ends, node_differs}
 use Rattle.clean_volumes.proofs.ChangedLemmas.MapBlocks.{IsRaised, raised_none, raised_then, map_raised}
@@ -64,16 +60,6 @@ sized_zone blocks i size (block index) = refl
 sized_zone blocks i size indirect = refl
 sized_zone blocks i size double = refl
 sized_zone blocks i size (inner k) = refl
-
--- the indices of a file that gets a block
-keys_mapped : (blocks : List (List ℕ)) (zones : List Mapped) (index zone : ℕ) (content : List ℕ) → ((m : Mapped) → In m zones → m.index ≢ index) → keys_of (put_number (bodies_of blocks zones) index content) ≡ indices_of (with_mapped zones index zone)
-keys_mapped blocks [] index zone content apart = refl
-keys_mapped blocks (m ∷ zones) index zone content apart = elim (cases_Bool (nat_lt index m.index)) [
-  | inl t ↦ rw t (ap (λ (ks : List ℕ). index ∷ m.index ∷ ks) (keys_bodies blocks zones))
-  | inr f ↦
-      let other = apart m (inl refl) in
-      rw (f, ne_eqb index m.index (λ e. other (sym e))) (ap (λ (ks : List ℕ). m.index ∷ ks) (keys_mapped blocks zones index zone content (λ m i. apart m (inr i))))
-]
 
 -- ---- a block that has a zone
 
@@ -102,79 +88,44 @@ module _ (tx : ℕ) (v : VolumeNow) (h : IsInUse v) (n : ℕ) (p : Placed) (zone
 -- ---- a block is written
 
 module _ (tx : ℕ) (v : VolumeNow) (h : IsInUse v) (n : ℕ) (f : File) (found : at_number (tree_of_now v) n ≡ Some (nodes.File f)) (off : ℕ) (bytes : List ℕ) (index : ℕ) (among : IsAmong off (length bytes) index)
-    (room : used_zones (put_number (tree_of_now v) n (nodes.File (with_block f index (patched index off bytes (block_or_zeros (at_number f.blocks index)))))) ≤ uses v.zones + frees v.zones)
-    (x : IsFileAt v n f) where
+    (room : used_zones (put_number (tree_of_now v) n (nodes.File (with_block f index (patched index off bytes (block_or_zeros (at_number f.blocks index)))))) ≤ uses v.zones + frees v.zones) where
+  abbrev node : IsFileAt v n f
+  node = steps.x tx v h n f found off bytes index among room
+
   abbrev blocks : List (List ℕ)
   blocks = v.contents.blocks
 
   abbrev zone : ℕ
-  zone = zone_in blocks x.placed.inode (block index)
-
-  abbrev after : File
-  after = with_block f index (patched index off bytes (block_or_zeros (at_number f.blocks index)))
-
-  blocks_are : f.blocks ≡ bodies_of blocks x.zones
-  blocks_are = ap (λ (f : File). f.blocks) x.file
-
-  apart : zone ≡ 0 → (m : Mapped) → In m x.zones → m.index ≢ index
-  apart hole m i e = let told = x.part.listed m i in told.1 (sym told.0 ∙ (ap (λ k. zone_in blocks x.placed.inode (block k)) e ∙ hole))
-
-  as_put : (old : List ℕ) → block_or_zeros (at_number f.blocks index) ≡ old →
-      record { size = x.placed.inode.size; links = x.placed.inode.links; blocks = put_number (bodies_of blocks x.zones) index (patched index off bytes old) } ≡ after
-  as_put old e = sym (ap (λ (f : File). with_block f index (patched index off bytes old)) x.file) ∙ ap (λ (body : List ℕ). with_block f index (patched index off bytes body)) (sym e)
-
-  hole_body : zone ≡ 0 → block_or_zeros (at_number f.blocks index) ≡ zeros 1024
-  unfolding zeros
-  hole_body hole = ap block_or_zeros (ap (λ (es : List (ℕ × List ℕ)). at_number es index) blocks_are ∙ none_at blocks x.zones index (apart hole))
+  zone = zone_in blocks node.placed.inode (block index)
 
   abbrev fresh : List ℕ
   fresh = patched index off bytes (zeros 1024)
 
-  abbrev numbers : List ℕ
-  numbers = (take_zones (λ y. zone_in blocks x.placed.inode y) index v.zones).numbers
-
-  zones_before : node_zones (nodes.File f) ≡ zones_of_file (indices_of x.zones)
-  zones_before = ap (λ (f : File). node_zones (nodes.File f)) x.file ∙ (ap file_zones (keys_bodies blocks x.zones) ∙ file_zones_are (indices_of x.zones))
-
-  zones_after : zone ≡ 0 → node_zones (nodes.File after) ≡ zones_of_file (indices_of x.zones) + length numbers
-  zones_after hole =
-      ap (λ (f : File). node_zones (nodes.File f)) (sym (as_put (zeros 1024) (hole_body hole)))
-      ∙ (ap file_zones (keys_mapped blocks x.zones index 0 fresh (apart hole))
-      ∙ (file_zones_are (indices_of (with_mapped x.zones index 0))
-      ∙ (zones_mapped index 0 x.zones
-      ∙ (count_map (λ y. zone_in blocks x.placed.inode y) (indices_of x.zones) (file_indexed v.geometry blocks v.contents.nodes n x.placed x.zones h.volume.0 x.stands x.is_file (h.volume.1 n x.placed x.stands)) index among.low hole
-      ∙ ap (λ k. zones_of_file (indices_of x.zones) + k) (holes_counted (λ y. zone_in blocks x.placed.inode y) index v.zones among.low hole)))))
-
-  enough : zone ≡ 0 → length numbers ≤ frees v.zones
-  enough hole =
-      let sum = used_put_more (tree_of_now v) n (nodes.File f) (nodes.File after) (tree_in_order blocks v.contents.nodes h.volume.0.in_order) found in
-      let one = zones_before in
-      let two = zones_after hole in
-      let counted = h.counted in
-      omega arith
+  enough : zone ≡ 0 → length (take_zones (λ y. zone_in blocks node.placed.inode y) index v.zones).numbers ≤ frees v.zones
+  enough = steps.enough tx v h n f found off bytes index among room
 
   abbrev written_to : Placed → List Mapped → Change
   written_to p zones =
       if nat_eq (zone_in blocks p.inode (block index)) 0 then map_file_block v n p zones (patched index off bytes (zeros 1024)) index
       else put_page v n index (zone_in blocks p.inode (block index)) (patched index off bytes (disk_of blocks (zone_in blocks p.inode (block index))))
 
-  block_raised : IsRaised v n x.placed (write_block v n off bytes index)
-  block_raised = subst (IsRaised v n x.placed) (sym (at_file_is v n x.placed x.zones written_to x.stands x.is_file)) (by (nat_eq zone 0) refl)
+  block_raised : IsRaised v n node.placed (write_block v n off bytes index)
+  block_raised = subst (IsRaised v n node.placed) (sym (at_file_is v n node.placed node.zones written_to node.stands node.is_file)) (by (nat_eq zone 0) refl)
     where
-      by : (b : Bool) → nat_eq zone 0 ≡ b → IsRaised v n x.placed (if b then map_file_block v n x.placed x.zones fresh index else put_page v n index zone (patched index off bytes (disk_of blocks zone)))
+      by : (b : Bool) → nat_eq zone 0 ≡ b → IsRaised v n node.placed (if b then map_file_block v n node.placed node.zones fresh index else put_page v n index zone (patched index off bytes (disk_of blocks zone)))
       by true y =
           let hole = eqb-true _ _ y in
-          map_raised v h n x.placed x.zones x.stands x.is_file fresh (patched_length index off bytes (zeros 1024) (length-zeros 1024) among.reaches among.begins) index among.low hole (enough hole)
-      by false f = page_raised tx v h n x.placed x.zones x.stands x.is_file (patched index off bytes (disk_of blocks zone)) (patched_length index off bytes (disk_of blocks zone) (h.volume.0.whole zone) among.reaches among.begins) index (eqb-false _ _ f)
+          map_raised v h n node.placed node.zones node.stands node.is_file fresh (patched_length index off bytes (zeros 1024) (length-zeros 1024) among.reaches among.begins) index among.low hole (enough hole)
+      by false f = page_raised tx v h n node.placed node.zones node.stands node.is_file (patched index off bytes (disk_of blocks zone)) (patched_length index off bytes (disk_of blocks zone) (h.volume.0.whole zone) among.reaches among.begins) index (eqb-false _ _ f)
 
   block_stays_bare : IsBareNow v → IsBareNow (write_block v n off bytes index).volume
-  block_stays_bare bare = subst (λ (c : Change). IsBareNow c.volume) (sym (at_file_is v n x.placed x.zones written_to x.stands x.is_file)) (by (nat_eq zone 0) refl)
+  block_stays_bare bare = subst (λ (c : Change). IsBareNow c.volume) (sym (at_file_is v n node.placed node.zones written_to node.stands node.is_file)) (by (nat_eq zone 0) refl)
     where
-      by : (b : Bool) → nat_eq zone 0 ≡ b → IsBareNow (if b then map_file_block v n x.placed x.zones fresh index else put_page v n index zone (patched index off bytes (disk_of blocks zone))).volume
+      by : (b : Bool) → nat_eq zone 0 ≡ b → IsBareNow (if b then map_file_block v n node.placed node.zones fresh index else put_page v n index zone (patched index off bytes (disk_of blocks zone))).volume
       by true y =
           let hole = eqb-true _ _ y in
-          block_bare v h n x.placed x.zones x.stands x.is_file fresh (patched_length index off bytes (zeros 1024) (length-zeros 1024) among.reaches among.begins) index among.low hole (enough hole) bare
-      by false f = page_bare v h n x.placed x.zones x.stands x.is_file (patched index off bytes (disk_of blocks zone)) (patched_length index off bytes (disk_of blocks zone) (h.volume.0.whole zone) among.reaches among.begins) index (eqb-false _ _ f) bare
+          block_bare v h n node.placed node.zones node.stands node.is_file fresh (patched_length index off bytes (zeros 1024) (length-zeros 1024) among.reaches among.begins) index among.low hole (enough hole) bare
+      by false f = page_bare v h n node.placed node.zones node.stands node.is_file (patched index off bytes (disk_of blocks zone)) (patched_length index off bytes (disk_of blocks zone) (h.volume.0.whole zone) among.reaches among.begins) index (eqb-false _ _ f) bare
 
 -- ---- one block after the other
 
@@ -200,8 +151,8 @@ blocks_raised tx v n f off bytes (i ∷ is) h found among room p at =
     let twice : put_number (tree_of_now c.volume) n (nodes.File last) ≡ put_number (tree_of_now v) n (nodes.File last) =
     ap (λ tree. put_number tree n (nodes.File last)) one.step.tree ∙ put_twice (tree_of_now v) n (nodes.File next) (nodes.File last) order in
     let used : used_zones (put_number (tree_of_now c.volume) n (nodes.File last)) ≡ used_zones (put_number (tree_of_now v) n (nodes.File last)) = ap used_zones twice in
-    let x = file_at v h n f found in
-    let first = raised_as v n x.placed p c (same_Some x.placed p (sym x.stands ∙ at)) (block_raised tx v h n f found off bytes i (among i (inl refl)) fits x) in
+    let x = steps.x tx v h n f found off bytes i (among i (inl refl)) fits in
+    let first = raised_as v n x.placed p c (same_Some x.placed p (sym x.stands ∙ at)) (block_raised tx v h n f found off bytes i (among i (inl refl)) fits) in
     raised_then v n p c (λ w. write_blocks w n off bytes is) first
     (blocks_raised tx c.volume n next off bytes is one.step.steady.in_use (file_stands tx v n c next (λ birth at. (birth ≡ n) × (at ≡ i)) one.step) (λ j k. among j (inr k)) (omega arith) first.placed first.stands)
 
@@ -224,7 +175,7 @@ blocks_bare tx v n f off bytes (i ∷ is) h found among room bare =
     ap (λ tree. put_number tree n (nodes.File last)) one.step.tree ∙ put_twice (tree_of_now v) n (nodes.File next) (nodes.File last) order in
     let used : used_zones (put_number (tree_of_now c.volume) n (nodes.File last)) ≡ used_zones (put_number (tree_of_now v) n (nodes.File last)) = ap used_zones twice in
     blocks_bare tx c.volume n next off bytes is one.step.steady.in_use (file_stands tx v n c next (λ birth at. (birth ≡ n) × (at ≡ i)) one.step) (λ j k. among j (inr k)) (omega arith)
-    (block_stays_bare tx v h n f found off bytes i (among i (inl refl)) fits (file_at v h n f found) bare)
+    (block_stays_bare tx v h n f found off bytes i (among i (inl refl)) fits bare)
 
 -- ---- the call
 

@@ -51,7 +51,7 @@ sorted_left test (e ∷ es) h = by (test e.0) (all_left (λ k. nat_cmp e.0 k ≡
     by true all rest = h.1
     by false all rest = (all, rest)
 
-zero_fits : FitInode zero_inode
+pub zero_fits : FitInode zero_inode
 zero_fits = record {
   mode = omega arith;
   uid = omega arith;

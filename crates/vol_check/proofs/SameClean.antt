@@ -1,6 +1,5 @@
 -- Whether a volume is clean is said by its walk, by the blocks before its zones, and by the first zone of each directory.
--- A copy of `SameMetadata` of `vol_check`, whose images agree on all metadata.
-use Rattle.std.specs.Prelude.{◌≡◌, ℕ, ◌+◌, ◌/◌, ◌<◌, ◌≤◌, zero, suc, true, cond, is_some, List, [], ◌∷◌, Option, Some, None, Ok, option_map, unwrap_or, refl}
+use Rattle.std.specs.Prelude.{◌≡◌, ◌≢◌, ℕ, ◌+◌, ◌/◌, ◌<◌, ◌≤◌, zero, suc, true, cond, is_some, List, [], ◌∷◌, Option, Some, None, Ok, option_map, unwrap_or, refl}
 use Rattle.std.specs.List.{sum_by}
 use Rattle.std.proofs.Common.{sym, ap, subst, ◌∙◌, ⊎_elim, arith}
 use Rattle.std.proofs.lemmas.Bool.{false≢true, cases_eq, eq-eqb}
@@ -30,6 +29,7 @@ use Rattle.volume_ops.specs.VolumeFields.{inode_at, zone_behind, slot_behind}
 use Rattle.volume_ops.specs.VolumeTrees.{IsVolumeTree}
 use Rattle.volume_ops.specs.Walk.{Walked}
 use Rattle.volume_ops.specs.Faultless.{IsUsed, IsFaultless, IsReached, IsDirectory}
+use Rattle.volume_ops.specs.Metadata.{table_end}
 use Rattle.volume_ops.proofs.TreeUnique.{walked_tree}
 use Rattle.volume_ops.proofs.WalkTests.{faultless_walked, walked_used}
 use Rattle.vol_check.specs.Clean.{IsClean}
@@ -54,17 +54,13 @@ sum_same f h same (x ∷ xs) =
 abbrev pub first_zone_of : Geometry → List (List ℕ) → ℕ → ℕ
 first_zone_of g blocks inode = zone_behind blocks (inode_at g blocks inode) 0
 
--- the block of the table that has an inode lies before the zones
-pub table_low : (g : Geometry) → IsSound g → (inode : ℕ) → inode ≤ g.inodes → table_block g inode < g.first
-table_low g sound inode low =
-    let below = sound.tables_below in
-    let some = sound.some_inode in
-    let ceil = div_ceil_times g.inodes 32 (omega arith) in
-    omega (arith, below, low, some, ceil.0)
+-- the block of the table that has an inode lies before the end of the table
+pub table_low : (g : Geometry) → 0 < g.inodes → (inode : ℕ) → inode ≤ g.inodes → table_block g inode < table_end g
+table_low g some inode low = let ceil = div_ceil_times g.inodes 32 (omega arith) in omega (arith, low, some, ceil.0)
 
 module _ (g : Geometry) (sound : IsSound g) (blocks other : List (List ℕ)) (faultless : IsFaultless g blocks) (walk : walked g other ≡ walked g blocks)
-    (tables : (b : ℕ) → b < g.first → disk_of other b ≡ disk_of blocks b)
-    (firsts : (inode : ℕ) → 1 ≤ inode → inode ≤ g.inodes → IsReached g blocks inode → IsDirectory g blocks inode → disk_of other (first_zone_of g blocks inode) ≡ disk_of blocks (first_zone_of g blocks inode)) where
+    (tables : (b : ℕ) → 1 ≤ b → b < table_end g → disk_of other b ≡ disk_of blocks b)
+    (firsts : (inode : ℕ) → 1 ≤ inode → inode ≤ g.inodes → IsReached g blocks inode → IsDirectory g blocks inode → first_zone_of g blocks inode ≢ 0 → disk_of other (first_zone_of g blocks inode) ≡ disk_of blocks (first_zone_of g blocks inode)) where
   some : 0 < g.inodes
   some = sound.some_inode
 
@@ -191,10 +187,10 @@ module _ (g : Geometry) (sound : IsSound g) (blocks other : List (List ℕ)) (fa
   -- ---- the same bytes
 
   inode_same : (inode : ℕ) → inode ≤ g.inodes → inode_at g other inode ≡ inode_at g blocks inode
-  inode_same inode low = ap (inode_in_block inode) (tables (table_block g inode) (table_low g sound inode low))
+  inode_same inode low = ap (inode_in_block inode) (tables (table_block g inode) (omega arith) (table_low g some inode low))
 
   bit_same : (p : BitPlace) → 2 ≤ p.block → p.block < 2 + g.imap + g.zmap → has_bit other p ≡ has_bit blocks p
-  bit_same p low high = ap (λ body. bit_of body p.at) (tables p.block (let below = sound.tables_below in omega (arith, high, below)))
+  bit_same p low high = ap (λ body. bit_of body p.at) (tables p.block (omega (arith, low)) (omega (arith, high)))
 
   inode_bit_same : (inode : ℕ) → inode ≤ g.inodes → has_bit other (inode_bit g inode) ≡ has_bit blocks (inode_bit g inode)
   inode_bit_same inode low = let bits = sound.inode_bits in bit_same (inode_bit g inode) (omega arith) (omega (arith, low, bits))
@@ -230,7 +226,7 @@ module _ (g : Geometry) (sound : IsSound g) (blocks other : List (List ℕ)) (fa
     mapped : (zone ≡ 0 → ⊥) → slot_behind g other i k ≡ slot_behind g blocks i k
     mapped has =
         let at : zone ≡ first_zone_of g blocks inode = ap (zone_behind blocks i) first in
-        let body = ap (disk_of other) at ∙ (firsts inode (let some = reached_some g blocks led in omega (arith, some)) low led directory ∙ ap (disk_of blocks) (sym at)) in
+        let body = ap (disk_of other) at ∙ (firsts inode (let some = reached_some g blocks led in omega (arith, some)) low led directory (λ none. has (at ∙ none)) ∙ ap (disk_of blocks) (sym at)) in
         rw (zone_same, body) refl
 
     slot_same : slot_behind g other (inode_at g other inode) k ≡ slot_behind g blocks (inode_at g blocks inode) k
