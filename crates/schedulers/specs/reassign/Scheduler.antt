@@ -60,6 +60,8 @@ pub record IsScheduler {S : Type 0} (steps : SchedSteps S) (valid : S → Type 0
   pub dispatches : (s : S) (pick : ℕ) → valid s → valid (steps.dispatched s pick) × Sends (steps.seen s) (steps.command s pick) (steps.seen (steps.dispatched s pick))
   -- no command comes exactly where the pick is past its list, which has a request while one waits
   pub none : (s : S) (pick : ℕ) → valid s → (steps.command s pick ≡ None) ↔ (steps.eligible s ≤ pick)
+  -- where no command comes, nothing changes
+  pub stays : (s : S) (pick : ℕ) → steps.command s pick ≡ None → steps.dispatched s pick ≡ s
   pub some : (s : S) → valid s → 0 < length (steps.seen s).waiting → 0 < steps.eligible s
   -- it accepts a request exactly where it is not blocked and fewer wait than may
   pub can : (s : S) → valid s → steps.can_accept s ≡ (not (steps.seen s).blocked && nat_lt (length (steps.seen s).waiting) (steps.seen s).capacity)

@@ -3,6 +3,7 @@ use Rattle.std.specs.Prelude.{◌≡◌, ℕ, ◌+◌, ◌<◌, zero, suc, Bool,
 use Rattle.std.specs.Option.{option_map, option_map_or}
 use Rattle.std.proofs.Common.{sym, arith}
 use Rattle.std.proofs.lemmas.List.{append-nil, map-append}
+use Rattle.std.proofs.lemmas.Option.{none-some}
 use Rattle.blk_base.specs.laws.Members.{In-filter, slice_get-In}
 use Rattle.order_model.specs.declared.request.Kind.{Kind}
 use Rattle.order_model.specs.declared.request.Kind.TheVariants.{Put, Flush}
@@ -71,6 +72,11 @@ sends : (s : ElevatorState) (o : Option Waiting) → Sends (seen_of s) (option_m
 sends s None = record { limit = refl; capacity = refl; accepted = refl; sent_out = sym (append-nil s.sent_out) }
 sends s (Some w) = record { limit = refl; capacity = leaving_capacity s.queue w w.request.kind; accepted = refl; sent_out = refl }
 
+-- where no request leaves, nothing changes
+stays : (s : ElevatorState) (o : Option Waiting) → option_map (λ w. (leaving_with s.queue w).command) o ≡ None → option_map_or (λ w. sent_as s (leaving_with s.queue w)) o s ≡ s
+stays s None e = refl
+stays s (Some w) e = absurd (none-some (leaving_with s.queue w).command (sym e))
+
 waits_in_list : (s : ElevatorState) → IsElevator s → 0 < length (seen_of s).waiting → 0 < length (listed s.head s.queue.waiting)
 waits_in_list s v h =
     let some = laws.keeps.some (sent_apart s s.queue (ungrouped v.groups)) v.apart h in
@@ -83,6 +89,7 @@ keeps = record {
   accepts = λ s r v a can. (accepted_valid s r v a can, accepts s r);
   dispatches = λ s pick v. (dispatched_valid s pick v, sends s (picked s pick));
   none = λ s pick v. laws.mapped_past (λ w. (leaving_with s.queue w).command) (listed s.head s.queue.waiting) pick;
+  stays = λ s pick e. stays s (picked s pick) e;
   some = waits_in_list;
   can = λ s v. laws.keeps.can (sent_apart s s.queue (ungrouped v.groups)) v.apart;
   blocked = λ s v h. laws.keeps.blocked (sent_apart s s.queue (ungrouped v.groups)) v.apart h;

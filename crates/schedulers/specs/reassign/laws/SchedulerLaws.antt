@@ -29,6 +29,11 @@ sends : (s : SchedState) (o : Option Waiting) → Sends (seen_of s) (option_map 
 sends s None = record { limit = refl; capacity = refl; accepted = refl; sent_out = sym (append-nil s.sent_out) }
 sends s (Some w) = record { limit = refl; capacity = refl; accepted = refl; sent_out = refl }
 
+-- where no request leaves, nothing changes
+stays : (s : SchedState) (o : Option Waiting) → option_map (command_of s.queue) o ≡ None → sent s o ≡ s
+stays s None e = refl
+stays s (Some w) e = absurd (none-some (command_of s.queue w) (sym e))
+
 -- no request is picked exactly past the list
 mapped-none : {X Y : Type 0} (f : X → Y) (o : Option X) → option_map f o ≡ None → o ≡ None
 mapped-none f None e = refl
@@ -85,6 +90,7 @@ keeps = record {
   accepts = λ s r v a can. (accepted-valid s r v a can, accepts s r);
   dispatches = λ s pick v. (dispatched-valid s pick v, sends s (picked s.queue pick));
   none = λ s pick v. mapped_past (command_of s.queue) (eligible s.queue.waiting) pick;
+  stays = λ s pick e. stays s (picked s.queue pick) e;
   some = λ s v h. eligible-nonempty s v (waits_on s h);
   can = can_is;
   blocked = λ s v h. on_waits s (blocked-nonempty s v h);
