@@ -23,3 +23,4 @@ pub mod RunHost
 pub mod Sentences
 pub mod StartHost
 pub mod Threads
+pub mod Walks

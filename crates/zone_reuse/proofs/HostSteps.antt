@@ -43,7 +43,7 @@ use Rattle.host_machine.specs.laws.PlanNotes.{is_plan_note, IsRestOf}
 use Rattle.host_machine.specs.laws.Reuse.{FreedWait}
 use Rattle.host_machine.specs.runs.Runs.{Event, Call, Commit, WriteBack, FlushStep, stepped}
 use Rattle.host_machine.specs.runs.laws.Kept.{IsSound}
-use Rattle.host_machine.specs.runs.laws.Walks.{BegunEnds, FreshEnds, caller_walk, flush_walk}
+use Rattle.host_machine.proofs.RunsLemmas.Walks.{BegunEnds, FreshEnds, caller_walk, flush_walk}
 use Rattle.zone_reuse.specs.Freeing.{IsGivenUp}
 use Rattle.zone_reuse.proofs.Owners.{IsFresh, taken_long, taken_apart, taken_here}
 use Rattle.zone_reuse.proofs.ZoneFacts.{ZoneFacts, reuses_told, orderless_told, freed_pushed, other_pushed, commit_pushed, entry_pushed}

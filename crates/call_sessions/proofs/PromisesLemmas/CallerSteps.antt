@@ -6,7 +6,7 @@ use Rattle.host_machine.specs.Host.{Stepped, unsent_on, ended_by, hindrance, sto
 use Rattle.host_machine.specs.Model.{Model}
 use Rattle.host_machine.specs.Outcomes as outcomes
 use Rattle.host_machine.specs.State.{Ending, Answered, SessionFull, Begun, Thread, Host, Setup, Begins, Ends}
-use Rattle.host_machine.specs.runs.laws.Walks.{BegunEnds, FreshEnds, call_walk}
+use Rattle.host_machine.proofs.RunsLemmas.Walks.{BegunEnds, FreshEnds, call_walk}
 use Rattle.flush_actor.specs.Kinds.{is_begun, is_data}
 use Rattle.flush_actor.specs.Part.{at_limit}
 

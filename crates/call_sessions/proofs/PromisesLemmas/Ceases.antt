@@ -18,7 +18,7 @@ use Rattle.host_machine.specs.laws.Contract.{Over}
 use Rattle.host_machine.specs.laws.Choices.{either}
 use Rattle.host_machine.specs.runs.Runs as runs
 use Rattle.host_machine.specs.runs.Runs.{Event, AreBegun, stepped, steps}
-use Rattle.host_machine.specs.runs.laws.Walks.{caller_walk}
+use Rattle.host_machine.proofs.RunsLemmas.Walks.{caller_walk}
 use Rattle.host_machine.proofs.RunsLemmas.Threads.{moved}
 use Rattle.call_sessions.proofs.PromisesLemmas.EndCauses.{begun_writes}
 use Rattle.call_sessions.proofs.PromisesLemmas.Growing.{run_grows, stay_begun}

@@ -14,7 +14,7 @@ use Rattle.flush_actor.specs.Kinds.{is_begun}
 use Rattle.flush_actor.specs.Part.{at_limit}
 use Rattle.host_machine.specs.laws.Contract.{Over}
 use Rattle.host_machine.specs.runs.Runs.{Event, Call, Commit, WriteBack, FlushStep, AreBegun, stepped}
-use Rattle.host_machine.specs.runs.laws.Walks.{BegunEnds, FreshEnds, caller_walk, commit_walk, writeback_walk, flush_walk}
+use Rattle.host_machine.proofs.RunsLemmas.Walks.{BegunEnds, FreshEnds, caller_walk, commit_walk, writeback_walk, flush_walk}
 use Rattle.host_machine.specs.runs.laws.Traces.{trace_of, Move, Stays, Puts, Enters, Cuts, Takes}
 
 same_head : {X : Type 0} (x y : X) (xs ys : List X) → x ∷ xs ≡ y ∷ ys → x ≡ y

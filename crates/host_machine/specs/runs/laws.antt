@@ -1,7 +1,6 @@
 -- What the host keeps along a run.
 pub mod Chunks
 pub mod Traces
-pub mod Walks
 pub mod Written
 pub mod RingFacts
 pub mod CallFacts

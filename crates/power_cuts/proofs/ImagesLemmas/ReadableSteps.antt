@@ -22,7 +22,7 @@ use Rattle.journal_ring.specs.LogRing.{put_home, put_homes}
 use Rattle.journal_ring.specs.running.Plan.{Writers, Planned}
 use Rattle.commit_actor.specs.Journal.{Plan, Phase, Idle, Closing, Committing}
 use Rattle.host_machine.specs.runs.Runs.{Event, Call, Commit, WriteBack, FlushStep, stepped}
-use Rattle.host_machine.specs.runs.laws.Walks.{BegunEnds, FreshEnds, caller_walk, commit_walk, writeback_walk, flush_walk}
+use Rattle.host_machine.proofs.RunsLemmas.Walks.{BegunEnds, FreshEnds, caller_walk, commit_walk, writeback_walk, flush_walk}
 use Rattle.host_machine.specs.runs.laws.Written.{IsWord, AreWritten}
 use Rattle.power_cuts.specs.images.Requests.{IsLoggable, IsReadable}
 use Rattle.power_cuts.proofs.ImagesLemmas.Requests.{AreReadable, plan_readable}

@@ -11,7 +11,7 @@ use Rattle.page_cache.specs.declared.cached_page.CachedPage.{CachedPage}
 use Rattle.host_machine.specs.Host.{Stepped, unsent_on, with_flush, send_page, advance, checkpoint, plan_sent, commit_step, writeback, flush_step}
 use Rattle.host_machine.specs.Model.{Model}
 use Rattle.journal_ring.specs.running.Plan.{Planned}
-use Rattle.host_machine.specs.runs.laws.Walks.{BegunEnds, FreshEnds, caller_walk, submits_walk, commit_walk, writeback_walk}
+use Rattle.host_machine.proofs.RunsLemmas.Walks.{BegunEnds, FreshEnds, caller_walk, submits_walk, commit_walk, writeback_walk}
 use Rattle.host_machine.specs.State.{Begun, Host, Setup}
 use Rattle.commit_actor.specs.Journal.{Plan}
 use Rattle.flush_actor.specs.Kinds.{is_data}
