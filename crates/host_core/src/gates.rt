@@ -10,7 +10,7 @@ mod kinds;
 mod laws;
 mod waiting;
 
-pub use asking::{needed, node_of, refusal, would_change};
+pub use asking::{asked, node_of, would_change};
 pub use kinds::{call_path, kind_of};
 pub use laws::calls_wait_by_their_parts;
 pub use volume_calls::{PlainVolume, volumes_are_plain};

@@ -11,7 +11,7 @@ ghost use Rattle.host_core.specs.code.Progress as steps;
 ghost use Rattle.host_core.specs.at_once.Steps.{steps_plainly};
 
 use crate::answer::Answer;
-use crate::at_once::{kind_of, node_of, refusal, replies_are_of_the_tree, step_plainly};
+use crate::at_once::{asked, kind_of, node_of, replies_are_of_the_tree, step_plainly};
 use crate::begun::{Begun, go_on};
 use crate::found::Found;
 use crate::parts::Parts;
@@ -70,9 +70,16 @@ fn go_further<O: Outlet<Request>>(
     }
 }
 
-// The step of a plain call, as entry `number`.
-fn perform(alloc: Global, parts: &mut Parts, number: u64, call: &Call) -> Result<Found, NoMemory>
+// The step of a plain call that nothing refuses and that takes so many zones, as entry `number`.
+fn perform(
+    alloc: Global,
+    parts: &mut Parts,
+    number: u64,
+    call: &Call,
+    zones: u32,
+) -> Result<Found, NoMemory>
     requires refused { volumes.refusal parts.old.volume call.now ≡ None }
+    requires zones { zones ≡ volumes.needed parts.old.volume call.now }
     requires blocks { parts.old.journal.blocks ≡ parts.old.volume.geometry.zones }
     ensures step { IfOk result (λ f. record { parts = parts_now parts.new; progress = progress_is [] f } ≡
         went_plainly (steps_plainly (writers parts.old.journal.made_with) parts.old.volume.geometry.zmap (quota parts.old.journal.made_with) (parts_now parts.old) number call.now)) }
@@ -88,7 +95,9 @@ fn perform(alloc: Global, parts: &mut Parts, number: u64, call: &Call) -> Result
         pages,
         owners,
     } = parts;
-    match step_plainly(alloc, journal, volume, pages, owners, number, call)? {
+    match step_plainly(
+        alloc, journal, volume, pages, owners, number, call, zones,
+    )? {
         crate::at_once::Progress::Answered(reply) => Ok(Found::Answered(Answer::of(alloc, reply)?)),
         crate::at_once::Progress::Full => Ok(Found::Full),
         crate::at_once::Progress::Waiting(cause) => Ok(Found::Waiting(cause)),
@@ -106,12 +115,13 @@ fn start(alloc: Global, parts: &mut Parts, number: u64, call: &Call) -> Result<F
     ensures queue { IfOk result (λ f. is_queue_full f ≡ false) }
 {
     replies_are_of_the_tree();
-    if let Some(reply) = refusal(&parts.volume, call) {
+    let (refusal, zones) = asked(&parts.volume, call);
+    if let Some(reply) = refusal {
         return Ok(Found::Answered(Answer::of(alloc, reply)?));
     }
     let kind = kind_of(call);
     if !kind.is_begun() {
-        return perform(alloc, parts, number, call);
+        return perform(alloc, parts, number, call, zones);
     }
     let file = node_of(&parts.volume, call);
     let begun = Begun::of(alloc, &parts.pages, number, kind, file)?;

@@ -1,10 +1,11 @@
 -- A call that need not wait finds room, and tells little.
-use Rattle.std.proofs.Common.{◌≡◌, ℕ, ◌-◌, ◌≤◌, Bool, true, false, not, nat_lt, if◌then◌else◌, length, Option, Some, None, Ok, Err, refl, sym, ap, subst, arith}
+use Rattle.std.proofs.Common.{◌≡◌, ℕ, ◌-◌, ◌≤◌, Bool, true, false, not, nat_lt, if◌then◌else◌, length, Option, Some, None, Ok, Err, IsOk, refl, sym, ap, subst, ◌∙◌, arith}
 use Rattle.std.proofs.lemmas.Bool.{false≢true}
 use Rattle.std.proofs.lemmas.Option.{none-some}
 use Rattle.tree_model.specs.declared.call.Call.{Call}
 use Rattle.tree_model.specs.declared.call.Call.TheVariants as calls
-use Rattle.tree_model.specs.Calls.{Row, outcome}
+use Rattle.tree_model.specs.Calls.{Row, Tree, outcome}
+use Rattle.tree_model.specs.Plain.{AreBornBefore}
 use Rattle.journal_ring.specs.running.Closing.{writers}
 use Rattle.journal_ring.specs.running.Open.{quota}
 use Rattle.journal_ring.specs.running.Plan.{Writers}
@@ -20,7 +21,11 @@ use Rattle.volume_steps.specs.Called.{FindsRoom}
 use Rattle.volume_steps.specs.Numbers.{number_in}
 use Rattle.host_machine.specs.Causes as causes
 use Rattle.host_machine.specs.Causes.{Cause}
-use Rattle.minix_host.specs.Calls.{kind_of, refusal, needed, would_change}
+use Rattle.minix_host.specs.Calls.{kind_of, refusal, refused_by, needed, would_change}
+use Rattle.minix_host.specs.Numbers.{next_birth}
+use Rattle.minix_host.specs.laws.Numbers.{born_before, born_before_next}
+use Rattle.minix_host.proofs.SameRows.{refused_same}
+use Rattle.volume_steps.proofs.TakeSteps.{none_born}
 use Rattle.minix_host.specs.Volumes.{zones_of}
 use Rattle.minix_host.proofs.Telling.{finds_room}
 use Rattle.host_core.specs.gates.Hindrances.{hindrance_by, hindrance_of}
@@ -50,6 +55,23 @@ enough_free w zmap most j v c none changes =
 pub room_found : (a : CommitActor) (v : VolumeNow) (n number : ℕ) (c : Call) → IsPlainNow v → refusal v c ≡ None → hindrance_of a v c ≡ None → number ≡ number_in (tree_of_now v) n → FindsRoom v number c
 room_found a v n number c plain refused none e =
     subst (λ k. FindsRoom v k c) (sym e) (finds_room v plain n c refused (enough_free (writers a.made_with) v.geometry.zmap (quota a.made_with) a.part v c none))
+
+-- nothing refuses it, whatever its number
+pub may_be_done : (v : VolumeNow) (n number : ℕ) (c : Call) → IsPlainNow v → refusal v c ≡ None → number ≡ number_in (tree_of_now v) n → IsOk (outcome (room_of v.geometry) (tree_of_now v) number c)
+unfolding refusal
+may_be_done v n number c plain none is = by (outcome (room_of v.geometry) (tree_of_now v) number c) refl
+  where
+    tree : Tree
+    tree = tree_of_now v
+
+    born : AreBornBefore number tree
+    born = subst (λ k. AreBornBefore k tree) (sym is) (born_before tree n)
+
+    by : (r : Row) → outcome (room_of v.geometry) (tree_of_now v) number c ≡ r → IsOk r
+    by (Ok d) e = refl
+    by (Err why) e =
+        let next = refused_same tree plain.plain.rooted.in_order number (next_birth tree) (none_born tree number born) (none_born tree (next_birth tree) (born_before_next tree)) (room_of v.geometry) c why e in
+        absurd (none-some why (sym none ∙ ap refused_by next))
 
 -- ---- how much it tells
 

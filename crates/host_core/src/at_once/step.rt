@@ -4,7 +4,7 @@ ghost use Rattle.journal_ring.specs.running.Closing.{writers};
 ghost use Rattle.journal_ring.specs.running.Open.{quota};
 ghost use Rattle.host_core.specs.effects.Effects.{with_part};
 ghost use Rattle.host_core.specs.gates.Hindrances.{hindrance_of};
-ghost use Rattle.minix_host.specs.Calls.{refusal};
+ghost use Rattle.minix_host.specs.Calls.{needed, refusal};
 ghost use Rattle.host_core.specs.at_once.Steps.{Answered, does, steps_plainly};
 ghost use Rattle.host_core.specs.at_once.code.Told.{progress_is};
 
@@ -57,14 +57,14 @@ fn perform(
         return Err(NoMemory);
     };
     make_room(alloc, journal, pages, volume, call)?;
-    let (reply, touched) = volume.apply(alloc, own, tx, call)?;
+    let (reply, touched) = volume.perform(alloc, own, tx, call)?;
     change(journal, pages, owners, volume, number, &touched);
     Ok(reply)
 }
 
-/// The step of a call that nothing refuses, as entry `number` of the history. Memory is asked for first; where it is
-/// refused, there may be more room than before, and nothing else is changed. `NoMemory` also stands for a call or a
-/// transaction whose number is too great for its word.
+/// The step of a call that nothing refuses and that takes `zones` zones, as entry `number` of the history. Memory is asked
+/// for first; where it is refused, there may be more room than before, and nothing else is changed. `NoMemory` also stands
+/// for a call or a transaction whose number is too great for its word.
 pub fn step_plainly(
     alloc: Global,
     journal: &mut JournalPart,
@@ -73,8 +73,10 @@ pub fn step_plainly(
     owners: &mut Vec<u64>,
     number: u64,
     call: &Call,
+    zones: u32,
 ) -> Result<Progress, NoMemory>
     requires refused { refusal volume.old call.now ≡ None }
+    requires zones { zones ≡ needed volume.old call.now }
     requires blocks { journal.old.blocks ≡ volume.old.geometry.zones }
     ensures step { IfOk result (λ p.
         record { parts = record { journal = journal.new.part; volume = volume.new; pages = pages.new.pages; owners = owners.new.items }; progress = progress_is p } ≡
@@ -83,7 +85,7 @@ pub fn step_plainly(
     ensures err { OnErr result ((journal.new.part ≡ journal.old.part) × (volume.new ≡ volume.old) × (pages.new.pages ≡ pages.old.pages) × (owners.new.items ≡ owners.old.items)) }
     ensures same { journal.new ≡ with_part journal.old journal.new.spare journal.new.part }
 {
-    if let Some(cause) = hindrance(journal, volume, call) {
+    if let Some(cause) = hindrance(journal, volume, call, zones) {
         return hinder(journal, volume, cause);
     }
     let reply = perform(alloc, journal, volume, pages, owners, number, call)?;

@@ -7,21 +7,16 @@ use crate::gates::kinds::call_path;
 use tree_model::{ByteList, Call, Reply};
 use volume_calls::{Answer, PlainVolume};
 
-/// What refuses a call, if anything does.
-pub fn refusal(volume: &PlainVolume, call: &Call) -> Option<Reply>
-    ensures { result ≡ refusal volume.now call.now }
+/// What refuses a call, if anything does, and how many zones it would take. Its paths are walked once.
+pub fn asked(volume: &PlainVolume, call: &Call) -> (Option<Reply>, u32)
+    ensures refusal { result.0 ≡ refusal volume.now call.now }
+    ensures zones { result.1 ≡ needed volume.now call.now }
 {
-    match volume.reply(call) {
-        Answer::Refused(reply) => Some(reply),
-        Answer::Change => None,
+    let (answer, zones) = volume.asked(call);
+    match answer {
+        Answer::Refused(reply) => (Some(reply), zones),
+        Answer::Change => (None, zones),
     }
-}
-
-/// How many zones a call would take.
-pub fn needed(volume: &PlainVolume, call: &Call) -> u32
-    ensures { result ≡ needed volume.now call.now }
-{
-    volume.needs(call)
 }
 
 // Both paths lead to one node.

@@ -2,18 +2,25 @@
 ghost use Rattle.std.specs.Prelude.{◌≡◌, length};
 ghost use Rattle.std.specs.Option.{option_map};
 ghost use Rattle.host_core.specs.begun.Causes.{cause_is};
+ghost use Rattle.minix_host.specs.Calls.{needed};
 ghost use Rattle.minix_host.specs.Volumes.{zones_of};
 ghost use Rattle.host_core.specs.gates.Hindrances.{hindrance_of};
 
-use crate::gates::asking::{needed, would_change};
+use crate::gates::asking::would_change;
 use commit_actor::JournalPart;
 use host_answers::Cause;
 use tree_model::Call;
 use volume_calls::PlainVolume;
 
-/// Why a call that nothing refuses has to wait, if it does: the running transaction is being closed, or is full, or too
-/// few zones are free.
-pub fn hindrance(journal: &JournalPart, volume: &PlainVolume, call: &Call) -> Option<Cause>
+/// Why a call that nothing refuses and that would take so many zones has to wait, if it does: the running transaction is
+/// being closed, or is full, or too few zones are free.
+pub fn hindrance(
+    journal: &JournalPart,
+    volume: &PlainVolume,
+    call: &Call,
+    needs: u32,
+) -> Option<Cause>
+    requires { needs ≡ needed volume.now call.now }
     ensures { option_map cause_is result ≡ hindrance_of journal.now volume.now call.now }
 {
     if !would_change(volume, call) {
@@ -27,7 +34,6 @@ pub fn hindrance(journal: &JournalPart, volume: &PlainVolume, call: &Call) -> Op
         return Some(Cause::TxFull(running.needs()));
     }
     let free = free_zones(volume);
-    let needs = needed(volume, call);
     if free < needs {
         return Some(Cause::Quarantine(needs - free));
     }

@@ -5,14 +5,14 @@ use Rattle.volume_steps.specs.Now.{tree_of_now}
 use Rattle.volume_steps.specs.Calls.{Called}
 use Rattle.volume_steps.specs.Numbers.{number_in}
 use Rattle.host_core.specs.lengths.Lengths.{notes_in}
-use Rattle.host_core.proofs.AtOnceLemmas.Finds.{room_found}
+use Rattle.host_core.proofs.AtOnceLemmas.Finds.{room_found, may_be_done}
 use Rattle.host_core.proofs.at_once.step.perform.Goals as goal
 
-pub apply-requires : goal.apply-requires
-apply-requires c =
+pub perform-requires : goal.perform-requires
+perform-requires c =
     let v = c.args.volume.now in
     let own : c.in-Some.own ≡ number_in (tree_of_now v) c.args.number = search rules in
-    record { room = room_found c.args.journal.now v c.args.number c.in-Some.own c.args.call.now c.volumes_are_plain.ensures c.requires.refused c.requires.free own }
+    record { room = room_found c.args.journal.now v c.args.number c.in-Some.own c.args.call.now c.volumes_are_plain.ensures c.requires.refused c.requires.free own; may = may_be_done v c.args.number c.in-Some.own c.args.call.now c.volumes_are_plain.ensures c.requires.refused own }
 
 pub change-requires-clause-notes : goal.change-requires-clause-notes
 change-requires-clause-notes c =
