@@ -6,3 +6,5 @@ pub mod CallsKept
 pub mod Spelled
 pub mod MadeLemmas
 pub mod PromisesLemmas
+pub mod PowerCutsLemmas
+pub mod ZoneReuseLemmas

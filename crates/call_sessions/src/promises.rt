@@ -6,7 +6,7 @@
 //! it, for any list of steps. So each holds also right behind the step that made an entry, and of whatever comes later.
 //!
 //! Stands on `call_sessions`, whose sessions these are. Its law that a session of scheduler and device takes just such
-//! steps stands in `session_run::machine`.
+//! steps stands in `session_core::run::machine`.
 mod laws;
 
 pub use laws::{

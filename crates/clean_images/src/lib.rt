@@ -3,7 +3,7 @@
 //! `sessions` has the images of sessions, whole or cut, `widened` those of `widen`, `replays` those that `replay --raw`
 //! writes, and `tidy` that volumes that were made have no leftovers.
 //!
-//! Stands on `clean_volumes` and `vol_check`.
+//! Stands on `vol_check::kept_clean` and `vol_check`.
 #![tactic(auto)]
 
 pub mod replays;

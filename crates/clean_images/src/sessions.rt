@@ -4,7 +4,7 @@
 //! The public functions do nothing when they are called: each is a law, and its clauses say it. `specs/Clean` of
 //! `vol_check` says what a clean volume is.
 //!
-//! Stands on `clean_volumes` for calls on clean volumes, on `host_machine::runs` and `minix_host` for runs of the host, and on
+//! Stands on `vol_check::kept_clean` for calls on clean volumes, on `host_machine::runs` and `minix_host` for runs of the host, and on
 //! `session_core` for scripts and their reports.
 mod laws;
 

@@ -10,12 +10,12 @@ use Rattle.volume_steps.specs.Now.{VolumeNow}
 use Rattle.host_machine.specs.State.{Host}
 use Rattle.tree_model.specs.declared.call.Call.{Call}
 use Rattle.tree_model.specs.declared.call.Reply.{Reply}
-use Rattle.session_run.specs.Beginning.{WriteBytes}
+use Rattle.session_core.specs.run.Beginning.{WriteBytes}
 use Rattle.stack_core.specs.Headline.{KeepsOrder}
-use Rattle.power_cuts.specs.calls.CallImages.{IsCut, found_in}
+use Rattle.call_sessions.specs.power_cuts.calls.CallImages.{IsCut, found_in}
 use Rattle.session_grammar.specs.declared.session_script.SessionScript.{SessionScript}
 use Rattle.session_grammar.specs.WellFormed.{IsWellFormed}
-use Rattle.session_run.specs.declared.session.SessionEnd.{SessionEnd}
+use Rattle.session_core.specs.declared.run.session.SessionEnd.{SessionEnd}
 use Rattle.session_core.specs.Core.{EndState, geometry_of, opening_of}
 use Rattle.session_core.specs.code.Cuts.{CutFacts, medium_left}
 use Rattle.session_core.specs.code.Ends.{KeepsTheOrder, IsBehind}

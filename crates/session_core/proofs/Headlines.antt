@@ -12,9 +12,9 @@ use Rattle.crash_laws.specs.History.{last_write, IsLastChange}
 use Rattle.host_machine.specs.State.{Begun}
 use Rattle.host_machine.specs.runs.Sentences.{IsAllSettled}
 use Rattle.minix_host.specs.Sessions.{Stands}
-use Rattle.session_run.specs.Beginning.{call_over}
-use Rattle.session_run.specs.End.{tree_behind}
-use Rattle.power_cuts.specs.calls.CallImages.{found_in, submitted_by, ShowsFiles}
+use Rattle.session_core.specs.run.Beginning.{call_over}
+use Rattle.session_core.specs.run.End.{tree_behind}
+use Rattle.call_sessions.specs.power_cuts.calls.CallImages.{found_in, submitted_by, ShowsFiles}
 use Rattle.session_grammar.specs.declared.session_script.SessionScript.{SessionScript}
 use Rattle.session_core.specs.Core.{EndState, IsDeviceOf, geometry_of, opening_of}
 use Rattle.session_core.specs.Headline.{medium_of, told_by, IsShownBy, IsAllShown, HeadlineOn}

@@ -7,3 +7,4 @@ pub mod CallNames
 pub mod CallEnds
 pub mod Remounts
 pub mod OpeningLemmas
+pub mod RunLemmas

@@ -22,14 +22,14 @@ use Rattle.line_grammar.specs.calls.WellFormed as call
 use Rattle.minix_host.specs.ByteCalls.{HasBytes}
 use Rattle.session_grammar.specs.declared.session_script.SessionScript.{SessionScript}
 use Rattle.session_grammar.specs.WellFormed.{IsWellFormed, all_calls}
-use Rattle.session_run.specs.machine.Machine.{core_session, opened_session, events_of, host_events}
+use Rattle.session_core.specs.run.machine.Machine.{core_session, opened_session, events_of, host_events}
 use Rattle.host_machine.specs.runs.Runs.{steps}
-use Rattle.session_run.specs.machine.MadeStart.{IsNew}
-use Rattle.session_run.specs.machine.Fits.{SessionFits}
+use Rattle.session_core.specs.run.machine.MadeStart.{IsNew}
+use Rattle.session_core.specs.run.machine.Fits.{SessionFits}
 use Rattle.std.specs.Option.{option_to_list}
-use Rattle.session_run.specs.Beginning.{HostNow, WriteBytes, call_over, IsMadeFor}
-use Rattle.session_run.specs.End.{IsEndOf, EndKeepsOrder}
-use Rattle.session_run.specs.declared.session.SessionEnd.{SessionEnd}
+use Rattle.session_core.specs.run.Beginning.{HostNow, WriteBytes, call_over, IsMadeFor}
+use Rattle.session_core.specs.run.End.{IsEndOf, EndKeepsOrder}
+use Rattle.session_core.specs.declared.run.session.SessionEnd.{SessionEnd}
 use Rattle.session_core.specs.Core.{HasSetup, IsDeviceOf, IsNewFor, geometry_of, opening_of, start_of, ended}
 use Rattle.session_core.specs.code.Ends.{session_on, EndsIn, KeepsTheOrder, IsBehind, EndFits}
 

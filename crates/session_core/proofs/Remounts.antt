@@ -10,8 +10,8 @@ use Rattle.stack_core.specs.Fresh.{device_over, flash_over}
 use Rattle.line_grammar.specs.declared.events.steer.Steer.{Steer}
 use Rattle.volume_ops.specs.Volume.{VolumeState}
 use Rattle.mount_make.specs.Images.{mounted}
-use Rattle.power_cuts.specs.declared.recovery.attempts.Attempt.{Attempt}
-use Rattle.power_cuts.specs.calls.CallImages.{IsMountedBehind, attempts_of, image_after}
+use Rattle.call_sessions.specs.declared.power_cuts.recovery.attempts.Attempt.{Attempt}
+use Rattle.call_sessions.specs.power_cuts.calls.CallImages.{IsMountedBehind, attempts_of, image_after}
 use Rattle.session_grammar.specs.declared.session_script.SessionScript.{SessionScript}
 use Rattle.session_core.specs.Core.{IsNewFor, core_as, core_on, device_for, flash_for, geometry_of}
 use Rattle.session_core.specs.Headline.{HeadlineOn}

@@ -13,8 +13,8 @@ use Rattle.host_machine.specs.runs.Promises.{call_of}
 use Rattle.host_machine.specs.runs.Sentences.{IsAllSettled}
 use Rattle.minix_host.specs.Calls.{kind_of}
 use Rattle.minix_host.specs.Sessions.{Stands}
-use Rattle.session_run.specs.Beginning.{call_over}
-use Rattle.session_run.specs.End.{tree_behind}
+use Rattle.session_core.specs.run.Beginning.{call_over}
+use Rattle.session_core.specs.run.End.{tree_behind}
 use Rattle.call_sessions.specs.promises.Answers.{AnsweredAt}
 use Rattle.call_sessions.proofs.PromisesLemmas.SessionTrees.{tree_told}
 use Rattle.call_sessions.proofs.PromisesLemmas.Renames.{renamed_leads}

@@ -13,9 +13,9 @@ use Rattle.tree_model.specs.declared.node.Node.{Node}
 use Rattle.tree_model.specs.declared.node.Node.TheVariants as nodes
 use Rattle.volume_ops.specs.laws.ReadsLaws.{same_Ok}
 use Rattle.host_machine.specs.Views.{cut_of, tree_after}
-use Rattle.session_run.specs.Beginning.{call_over}
-use Rattle.session_run.specs.End.{tree_behind}
-use Rattle.power_cuts.proofs.CallsLemmas.ShownFiles.{later_kept}
+use Rattle.session_core.specs.run.Beginning.{call_over}
+use Rattle.session_core.specs.run.End.{tree_behind}
+use Rattle.call_sessions.proofs.PowerCutsLemmas.CallsLemmas.ShownFiles.{later_kept}
 use Rattle.call_sessions.specs.promises.Trees.{tree_at}
 use Rattle.call_sessions.proofs.PromisesLemmas.SessionTrees.{tree_told}
 use Rattle.session_grammar.specs.declared.session_script.SessionScript.{SessionScript}

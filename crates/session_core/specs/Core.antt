@@ -23,16 +23,16 @@ use Rattle.mount_make.specs.Made.{new_journal, made_image}
 use Rattle.host_answers.specs.declared.standing.Standing.{Standing}
 use Rattle.host_machine.specs.State.{Host}
 use Rattle.session_core.specs.opening.Opened.{opened_now}
-pub use Rattle.session_run.specs.Beginning.{HostNow}
-use Rattle.session_run.specs.Beginning.{made_opening}
-pub use Rattle.session_run.specs.End.{entry_in, ArePlaced, standing_of}
+pub use Rattle.session_core.specs.run.Beginning.{HostNow}
+use Rattle.session_core.specs.run.Beginning.{made_opening}
+pub use Rattle.session_core.specs.run.End.{entry_in, ArePlaced, standing_of}
 use Rattle.host_machine.specs.runs.Runs.{Event}
 use Rattle.minix_host.specs.Sessions.{Opening}
-use Rattle.power_cuts.specs.calls.CallImages.{made_session}
+use Rattle.call_sessions.specs.power_cuts.calls.CallImages.{made_session}
 use Rattle.stack_core.specs.Core.{epoch_machine, flash_machine}
 use Rattle.session_grammar.specs.declared.session_script.SessionScript.{SessionScript}
-use Rattle.session_run.specs.machine.Machine.{SessionState, Start, core_session}
-use Rattle.session_run.specs.machine.MadeStart.{made_start}
+use Rattle.session_core.specs.run.machine.Machine.{SessionState, Start, core_session}
+use Rattle.session_core.specs.run.machine.MadeStart.{made_start}
 
 -- how its volume is divided
 abbrev pub geometry_of : SessionScript → Geometry

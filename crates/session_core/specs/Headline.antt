@@ -26,8 +26,8 @@ use Rattle.host_machine.specs.runs.Sentences.{IsAllSettled}
 use Rattle.host_machine.specs.runs.Flushes.{count, is_sync_begin}
 pub use Rattle.minix_host.specs.Calls.{kind_of}
 use Rattle.minix_host.specs.Sessions.{Stands}
-use Rattle.session_run.specs.Beginning.{call_over}
-use Rattle.power_cuts.specs.calls.CallImages.{made_session, KeepsFiles, ShowsFiles, IsShown, IsShownOrGone, submitted_by, kept_count, history_of}
+use Rattle.session_core.specs.run.Beginning.{call_over}
+use Rattle.call_sessions.specs.power_cuts.calls.CallImages.{made_session, KeepsFiles, ShowsFiles, IsShown, IsShownOrGone, submitted_by, kept_count, history_of}
 pub use Rattle.call_sessions.specs.promises.Answers.{AnsweredAt, WasAnswered}
 use Rattle.call_sessions.specs.promises.Answers.{HasOkCause}
 use Rattle.call_sessions.specs.promises.Causes.{HadCome, HaveCauses}

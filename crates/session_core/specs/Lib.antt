@@ -6,3 +6,4 @@ pub mod Replaced
 pub mod CallEnds
 pub mod code
 pub mod opening
+pub mod run

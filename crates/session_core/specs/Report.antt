@@ -10,9 +10,9 @@ use Rattle.mount_make.specs.Images.{mounted, image_tree, recovered_image}
 use Rattle.stack_core.specs.Core.{flash_machine}
 use Rattle.stack_core.specs.Fresh.{flash_over}
 use Rattle.stack_core.specs.Headline.{KeepsOrder}
-pub use Rattle.session_run.specs.End.{tree_behind}
+pub use Rattle.session_core.specs.run.End.{tree_behind}
 use Rattle.session_grammar.specs.declared.session_script.SessionScript.{SessionScript}
-use Rattle.power_cuts.specs.calls.CallImages.{IsMountedBehind, attempts_of, found_in, image_after}
+use Rattle.call_sessions.specs.power_cuts.calls.CallImages.{IsMountedBehind, attempts_of, found_in, image_after}
 use Rattle.session_core.specs.Core.{EndState, opening_of, geometry_of, core_as, standings_of}
 use Rattle.session_core.specs.declared.report.SessionReport.{SessionReport}
 

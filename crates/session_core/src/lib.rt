@@ -4,17 +4,18 @@
 //! `running` runs a script, on any device and with any maker of devices for its recovery, or on model devices;
 //! `specs/Core` has where that leads; `recover_session` makes the report of every session that ended, also of one whose parts
 //! ran apart, and tells that the headline holds of it; `report` has what is left, and `specs/Report` says which report it is and what it
-//! promises. `laws` ties what is promised of a call by its kind to the calls' names (`specs/CallNames`), what survived
+//! promises. `run` does the events one after the other on one thread, and has the session as a machine. `laws` ties what is promised of a call by its kind to the calls' names (`specs/CallNames`), what survived
 //! to what a reader sees in the tree, both to how programs replace a file (`specs/Replaced`), and how calls end to the
 //! header of the script (`specs/CallEnds`).
 //!
-//! Stands on `opening`, `session_run` and `power_cuts::recovery` for its three parts, and on `power_cuts::calls` for what a
+//! Stands on `opening`, `run` and `call_sessions::power_cuts::recovery` for its three parts, and on `call_sessions::power_cuts::calls` for what a
 //! power cut may leave.
 #![tactic(auto)]
 
 mod laws;
 pub mod opening;
 mod report;
+pub mod run;
 mod running;
 
 pub use laws::{

@@ -1,9 +1,9 @@
 //! What a session leaves.
+use crate::run::Host;
 use blk_base::{Block, Image};
+use call_sessions::power_cuts::calls::Attempt;
 use host_answers::Standing;
 use order_model::{DeviceRecord, Origins, SchedRecord, Trail};
-use power_cuts::calls::Attempt;
-use session_run::Host;
 use volume_ops::Volume;
 
 /// What the power cut left of a session's device. The image itself went into its recovery.

@@ -4,8 +4,8 @@ ghost use Rattle.order_model.specs.Machine.{machine_of};
 ghost use Rattle.schedulers.specs.reassign.Scheduler.{IsNewScheduler};
 ghost use Rattle.mount_make.specs.Made.{made_image};
 ghost use Rattle.session_grammar.specs.WellFormed.{IsWellFormed};
-ghost use Rattle.session_run.specs.Beginning.{IsMadeFor};
-ghost use Rattle.session_run.specs.declared.session.SessionEnd.{SessionEnd};
+ghost use Rattle.session_core.specs.run.Beginning.{IsMadeFor};
+ghost use Rattle.session_core.specs.declared.run.session.SessionEnd.{SessionEnd};
 ghost use Rattle.session_core.specs.Core.{EndState, IsDeviceOf, IsNewFor, core_as, core_on, device_for, ended, flash_for, geometry_of, opened_host, opening_of, start_of, standings_of};
 ghost use Rattle.session_core.specs.Headline.{Headline, HeadlineOn};
 ghost use Rattle.session_core.specs.Report.{HasAttempts, IsCoreReport, IsReportAs, IsReportOf};
@@ -14,7 +14,16 @@ ghost use Rattle.session_core.specs.code.Ends.{session_on, EndsIn, KeepsTheOrder
 
 use crate::opening::{OpenedSession, open_session};
 use crate::report::{CutRecord, SessionReport};
+use crate::run::machine::{hosts_of_sessions_take_their_steps, parts_of_sessions_fit};
+use crate::run::{
+    Host, SessionEnd, calls_of_scripts_write_bytes, run_session, sessions_of_calls_on_made_images,
+    sessions_on_made_images_can_be_run,
+};
 use blk_base::{Image, NoMemory};
+use call_sessions::power_cuts::calls::{
+    attempts_on_model_devices, cut_sessions_have_the_tree_of_a_prefix, cut_sessions_keep_files,
+    cut_sessions_mount, cut_sessions_show_files, cut_sessions_tell_how_many, remount,
+};
 use call_sessions::promises::{
     answered_calls_keep_their_promises, calls_end_for_a_cause, histories_follow_the_tree,
 };
@@ -23,19 +32,10 @@ use flog_device::{FlogDevice, FlogSetup};
 use host_answers::Standing;
 use minix_layout::Geometry;
 use order_model::{CutDisk, OrderedDev, Trail};
-use power_cuts::calls::{
-    attempts_on_model_devices, cut_sessions_have_the_tree_of_a_prefix, cut_sessions_keep_files,
-    cut_sessions_mount, cut_sessions_show_files, cut_sessions_tell_how_many, remount,
-};
 use schedulers::elevator::Elevator;
 use schedulers::epochs::Sched;
 use schedulers::reassign::{CAPACITY, Scheduler};
 use session_grammar::SessionScript;
-use session_run::machine::{hosts_of_sessions_take_their_steps, parts_of_sessions_fit};
-use session_run::{
-    Host, SessionEnd, calls_of_scripts_write_bytes, run_session, sessions_of_calls_on_made_images,
-    sessions_on_made_images_can_be_run,
-};
 use stack_core::{EpochMaker, FlogMaker, Maker};
 use std::alloc::Global;
 

@@ -23,13 +23,13 @@ use Rattle.host_machine.specs.State.{Host, Thread}
 use Rattle.host_machine.specs.runs.Runs.{Event}
 use Rattle.call_sessions.specs.Sessions.{host_behind}
 use Rattle.call_sessions.specs.promises.Legal.{events_in, program_of}
-use Rattle.session_run.specs.parts.Whole.{IsWhole}
+use Rattle.session_core.specs.run.parts.Whole.{IsWhole}
 use Rattle.session_grammar.specs.declared.session_script.SessionScript.{SessionScript}
 use Rattle.session_core.specs.Core.{IsDeviceOf, IsNewFor, opening_of, start_of}
-use Rattle.stack_run.specs.declared.beside.events.Effects.{Effects}
-use Rattle.stack_run.specs.Ended.{HasEnded}
-use Rattle.stack_run.specs.HostReplay.{with_completions}
-use Rattle.stack_run.specs.Sides.{AreSides}
+use Rattle.session_threads.specs.declared.sides.beside.events.Effects.{Effects}
+use Rattle.session_threads.specs.sides.Ended.{HasEnded}
+use Rattle.session_threads.specs.sides.HostReplay.{with_completions}
+use Rattle.session_threads.specs.sides.Sides.{AreSides}
 use Rattle.session_threads.proofs.Replays.{are_replayed}
 use Rattle.session_threads.specs.Ran.{LeftBy}
 

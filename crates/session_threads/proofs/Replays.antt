@@ -9,22 +9,22 @@ use Rattle.schedulers.specs.reassign.Scheduler.{SchedSteps}
 use Rattle.call_sessions.specs.Sessions.{host_behind}
 use Rattle.host_core.specs.Now.{HostNow}
 use Rattle.minix_host.specs.Sessions.{Opening}
-use Rattle.session_run.specs.machine.Machine.{Start}
-use Rattle.stack_run.specs.declared.beside.events.DeviceEvent.{DeviceEvent}
-use Rattle.stack_run.specs.declared.beside.events.DeviceEvent.TheVariants as device_events
-use Rattle.stack_run.specs.declared.beside.events.Effects.{Effects}
-use Rattle.stack_run.specs.declared.beside.events.HostEvent.{HostEvent}
-use Rattle.stack_run.specs.declared.beside.events.SchedEvent.{SchedEvent}
-use Rattle.stack_run.specs.declared.beside.events.SchedEvent.TheVariants as sched_events
-use Rattle.stack_run.specs.beside.DeviceReplay as device
-use Rattle.stack_run.specs.beside.DeviceReplay.{with_commands, receives}
-use Rattle.stack_run.specs.beside.SchedReplay as scheduler
-use Rattle.stack_run.specs.beside.SchedReplay.{with_requests, accepts}
-use Rattle.stack_run.specs.HostReplay.{with_completions, takes}
+use Rattle.session_core.specs.run.machine.Machine.{Start}
+use Rattle.session_threads.specs.declared.sides.beside.events.DeviceEvent.{DeviceEvent}
+use Rattle.session_threads.specs.declared.sides.beside.events.DeviceEvent.TheVariants as device_events
+use Rattle.session_threads.specs.declared.sides.beside.events.Effects.{Effects}
+use Rattle.session_threads.specs.declared.sides.beside.events.HostEvent.{HostEvent}
+use Rattle.session_threads.specs.declared.sides.beside.events.SchedEvent.{SchedEvent}
+use Rattle.session_threads.specs.declared.sides.beside.events.SchedEvent.TheVariants as sched_events
+use Rattle.session_threads.specs.sides.beside.DeviceReplay as device
+use Rattle.session_threads.specs.sides.beside.DeviceReplay.{with_commands, receives}
+use Rattle.session_threads.specs.sides.beside.SchedReplay as scheduler
+use Rattle.session_threads.specs.sides.beside.SchedReplay.{with_requests, accepts}
+use Rattle.session_threads.specs.sides.HostReplay.{with_completions, takes}
 use Rattle.session_threads.specs.Replayed.{AreReplayed}
-use Rattle.stack_run.specs.Sides.{AreSides}
-use Rattle.stack_run.proofs.Fits.{rest_of}
-use Rattle.stack_run.proofs.HostEvents as of_host
+use Rattle.session_threads.specs.sides.Sides.{AreSides}
+use Rattle.session_threads.proofs.SidesLemmas.Fits.{rest_of}
+use Rattle.session_threads.proofs.SidesLemmas.HostEvents as of_host
 
 -- events that took these items do the same over a list that begins with them
 

@@ -1,2 +1,3 @@
 pub mod Ran
 pub mod Replayed
+pub mod sides

@@ -14,10 +14,10 @@ use Rattle.session_core.specs.Core.{EndState, device_for, flash_for, opening_of,
 use Rattle.session_core.specs.Headline.{HeadlineOn}
 use Rattle.session_core.specs.Report.{HasAttemptsAs, IsReportOf}
 use Rattle.session_core.specs.code.Ends.{IsEndOfScript}
-use Rattle.session_run.specs.parts.Whole.{IsWhole}
-use Rattle.stack_run.specs.beside.Opened.{PartSetup}
-use Rattle.stack_run.specs.declared.beside.events.Effects.{Effects}
-use Rattle.stack_run.specs.Ended.{HasEnded}
+use Rattle.session_core.specs.run.parts.Whole.{IsWhole}
+use Rattle.session_threads.specs.sides.beside.Opened.{PartSetup}
+use Rattle.session_threads.specs.declared.sides.beside.events.Effects.{Effects}
+use Rattle.session_threads.specs.sides.Ended.{HasEnded}
 use Rattle.session_threads.specs.Replayed.{AreReplayed}
 use Rattle.session_threads.specs.declared.report.ThreadsEnd.{ThreadsEnd}
 use Rattle.session_threads.specs.declared.report.ThreadsReport.{ThreadsReport}

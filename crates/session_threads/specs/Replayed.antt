@@ -8,13 +8,13 @@ use Rattle.tree_model.specs.declared.call.Call.{Call}
 use Rattle.tree_model.specs.declared.call.Reply.{Reply}
 use Rattle.volume_steps.specs.Now.{VolumeNow}
 use Rattle.minix_host.specs.Sessions.{Opening}
-use Rattle.session_run.specs.machine.Machine.{Start}
-use Rattle.stack_run.specs.declared.beside.events.Effects.{Effects}
-use Rattle.stack_run.specs.beside.DeviceReplay as device
-use Rattle.stack_run.specs.beside.DeviceReplay.{with_commands}
-use Rattle.stack_run.specs.beside.SchedReplay as scheduler
-use Rattle.stack_run.specs.beside.SchedReplay.{with_requests}
-use Rattle.stack_run.specs.HostReplay.{with_completions}
+use Rattle.session_core.specs.run.machine.Machine.{Start}
+use Rattle.session_threads.specs.declared.sides.beside.events.Effects.{Effects}
+use Rattle.session_threads.specs.sides.beside.DeviceReplay as device
+use Rattle.session_threads.specs.sides.beside.DeviceReplay.{with_commands}
+use Rattle.session_threads.specs.sides.beside.SchedReplay as scheduler
+use Rattle.session_threads.specs.sides.beside.SchedReplay.{with_requests}
+use Rattle.session_threads.specs.sides.HostReplay.{with_completions}
 
 -- Each part is led to by its events from the part that the session opens, over all that the part before it gave: the host by the
 -- completions that the device sent, the scheduler by the requests of the host, and the device by the commands of the scheduler.

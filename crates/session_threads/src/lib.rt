@@ -1,7 +1,7 @@
 //! A session of a script in threads, from its script to its report: the counterpart of `core_run` of `session_core`, which
 //! runs the script's own events on one thread.
 //!
-//! `running` opens what the script says, picks the names of its sides, and hands them to the loops of `stack_run`. Once the
+//! `sides` has host, scheduler and device behind three locks, and their loops. `running` opens what the script says, picks the names of its sides, and hands them to the loops of `sides`. Once the
 //! session has ended, a power cut leaves of it what `session_core` recovers and reports, with the same promises as of a session
 //! on one thread: these ask of the parts only that they fit, and of the order among them nothing. `specs/Ran` has which
 //! report it is: the parts are the replay of the events that the report has, the session has ended, and each thread did its
@@ -10,6 +10,7 @@
 
 mod report;
 mod running;
+pub mod sides;
 
 pub use report::ThreadsReport;
 pub use running::run_threads;

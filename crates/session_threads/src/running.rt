@@ -9,31 +9,31 @@ ghost use Rattle.host_machine.specs.runs.laws.Written.{AreWritten};
 ghost use Rattle.minix_host.specs.Runs.{IsOpenedVolume, HasEmptyJournal};
 ghost use Rattle.call_sessions.specs.Sessions.{WriteBytes};
 ghost use Rattle.session_grammar.specs.WellFormed.{IsWellFormed};
-ghost use Rattle.session_run.specs.CodeHosts.{IsInSession};
+ghost use Rattle.session_core.specs.run.CodeHosts.{IsInSession};
 ghost use Rattle.session_core.specs.Core.{IsNewFor, geometry_of, opened_host, opening_of, start_of};
-ghost use Rattle.stack_run.specs.Ended.{HasEnded};
-ghost use Rattle.stack_run.specs.Sides.{AreSides};
+ghost use Rattle.session_threads.specs.sides.Ended.{HasEnded};
+ghost use Rattle.session_threads.specs.sides.Sides.{AreSides};
 ghost use Rattle.session_threads.specs.Ran.{HasRoom, IsThreadsReport, LeftBy, LeftWith, part_setup};
 
 use crate::report::{ThreadsEnd, ThreadsReport};
+use crate::sides::beside::{IdFlags, OpensDevice, OpensScheduler};
+use crate::sides::{Gate, JoinedParts, SessionNames, run_sides};
 use blk_base::NoMemory;
+use call_sessions::power_cuts::calls::attempts_on_model_devices;
 use order_model::OrderedDev;
-use power_cuts::calls::attempts_on_model_devices;
 use schedulers::dispatch::{Passes, Queues, make_queues};
 use schedulers::elevator::Elevator;
 use schedulers::epochs::Sched;
 use schedulers::reassign::{CAPACITY, Scheduler};
 use session_core::opening::OpenedSession;
-use session_core::{check_parts, flash_device, model_device, open_script, recover_session};
-use session_grammar::SessionScript;
-use session_run::parts::{
+use session_core::run::parts::{
     ended_threads_did_their_programs, hosts_number_their_requests, joined_parts_keep_the_order,
     parts_are_lawful,
 };
-use session_run::{Host, SessionEnd};
+use session_core::run::{Host, SessionEnd};
+use session_core::{check_parts, flash_device, model_device, open_script, recover_session};
+use session_grammar::SessionScript;
 use stack_core::{EpochMaker, FlogMaker};
-use stack_run::beside::{IdFlags, OpensDevice, OpensScheduler};
-use stack_run::{Gate, JoinedParts, SessionNames, run_sides};
 use std::alloc::Global;
 use std::marker::Brand;
 use std::sync::Wait;

@@ -17,7 +17,7 @@ use Rattle.minix_host.specs.Sessions.{Stands}
 use Rattle.call_sessions.specs.Sessions.{call_over}
 use Rattle.call_sessions.specs.promises.Answers.{AnsweredAt}
 use Rattle.session_grammar.specs.declared.session_script.SessionScript.{SessionScript}
-use Rattle.power_cuts.proofs.CallsLemmas.ShownFiles.{later_kept}
+use Rattle.call_sessions.proofs.PowerCutsLemmas.CallsLemmas.ShownFiles.{later_kept}
 use Rattle.session_core.specs.Core.{EndState, geometry_of, opening_of}
 use Rattle.session_core.specs.Headline.{HeadlineOn, told_by, medium_of, kept_in, HasLaterKept, IsShownBy}
 use Rattle.session_core.specs.declared.report.SessionReport.{SessionReport}

@@ -1,5 +1,5 @@
 //! Gates of the tests.
-use stack_run::Gate;
+use session_threads::sides::Gate;
 use std::sync::atomic::{AtomicBool, Ordering};
 use std::thread;
 

@@ -5,7 +5,7 @@ use host_answers::{Entry, EntryKind};
 use script_grammar::MOST_SCRIPT_BYTES;
 use session_grammar::read_session;
 use session_threads::{ThreadsReport, run_threads};
-use stack_run::Gate;
+use session_threads::sides::Gate;
 use std::alloc::Global;
 use std::process::Abort;
 use std::sync::Wait;

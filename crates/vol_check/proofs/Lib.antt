@@ -9,3 +9,4 @@ pub mod Volumes
 pub mod CleanTrees
 pub mod SameClean
 pub mod SameMetadata
+pub mod KeptCleanLemmas

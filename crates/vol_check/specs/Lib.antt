@@ -4,3 +4,4 @@ pub mod CleanTrees
 pub mod Images
 pub mod Verdicts
 pub mod code
+pub mod kept_clean

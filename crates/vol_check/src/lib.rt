@@ -6,14 +6,15 @@
 //! lowest inode or zone. A volume of an image that can be mounted has no other fault.
 //!
 //! `births` finds the nodes that the walk met, `maps`, `links` and `dots` have a pass each, and `checking` puts them
-//! together. Each pass looks at each inode, zone and name once.
+//! together. Each pass looks at each inode, zone and name once. `kept_clean` has laws: calls keep volumes clean.
 //!
-//! Stands on `volume_ops`, which reads volumes and walks through them.
+//! Stands on `volume_ops`, which reads volumes and walks through them, and in `kept_clean` on `volume_steps`.
 #![tactic(auto)]
 
 mod births;
 mod checking;
 mod dots;
+pub mod kept_clean;
 mod laws;
 mod links;
 mod maps;

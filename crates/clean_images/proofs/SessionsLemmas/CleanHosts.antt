@@ -8,7 +8,7 @@ use Rattle.volume_ops.specs.Volume.{disk_of}
 use Rattle.volume_steps.specs.Now.{VolumeNow, tree_of_now}
 use Rattle.volume_steps.specs.Calls.{called}
 use Rattle.vol_check.specs.Clean.{IsClean}
-use Rattle.clean_volumes.proofs.PlainClean.{call_clean}
+use Rattle.vol_check.proofs.KeptCleanLemmas.PlainClean.{call_clean}
 use Rattle.host_machine.specs.laws.Contract.{Over, Contract, StandsFor, Tells}
 use Rattle.host_machine.specs.runs.Runs.{HasBlocks}
 use Rattle.minix_host.specs.ByteCalls.{ByteCall}

@@ -30,11 +30,11 @@ use Rattle.mount_make.specs.Made.{made_image, new_journal}
 use Rattle.mount_make.proofs.MadeImages.{made_kind, image_divided}
 use Rattle.widening.proofs.Remounting.{mounted_parts}
 use Rattle.call_sessions.proofs.MadeLemmas.MadeJournal.{made_opened, made_empty}
-use Rattle.power_cuts.specs.images.SessionImages.{Start, HasSizes, IsCutOf, submitted}
-use Rattle.power_cuts.proofs.ImagesLemmas.SessionLaws.{is_divided, recovers}
+use Rattle.call_sessions.specs.power_cuts.images.SessionImages.{Start, HasSizes, IsCutOf, submitted}
+use Rattle.call_sessions.proofs.PowerCutsLemmas.ImagesLemmas.SessionLaws.{is_divided, recovers}
 use Rattle.call_sessions.specs.Sessions.{WriteBytes, made_now, made_ring, plain_host}
 use Rattle.call_sessions.proofs.CallsKept.{all_with_bytes, is_plain}
-use Rattle.power_cuts.specs.calls.CallImages.{opening_on, made_session}
+use Rattle.call_sessions.specs.power_cuts.calls.CallImages.{opening_on, made_session}
 use Rattle.clean_images.proofs.SessionsLemmas.CleanRuns.{host_clean, recovered_clean}
 use Rattle.clean_images.proofs.SessionsLemmas.MadeClean.{MarksRoot, made_clean}
 

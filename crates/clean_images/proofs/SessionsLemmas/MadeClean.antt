@@ -27,8 +27,8 @@ use Rattle.mount_make.proofs.Filling.{length-made}
 use Rattle.call_sessions.specs.made.MadeSessions.{made_now}
 use Rattle.call_sessions.proofs.MadeLemmas.MadeInUse.{made_in_use}
 use Rattle.vol_check.specs.Clean.{IsClean}
-use Rattle.clean_volumes.specs.Marked.{IsMarked}
-use Rattle.clean_volumes.proofs.PlainClean.{marked_clean}
+use Rattle.vol_check.specs.kept_clean.Marked.{IsMarked}
+use Rattle.vol_check.proofs.KeptCleanLemmas.PlainClean.{marked_clean}
 
 -- what a law says of the maps of an image that was made: they mark the root and its zone
 pub record MarksRoot (g : Geometry) : Type 0 where

@@ -32,10 +32,10 @@ use Rattle.volume_steps.specs.UsedInodes.{IsInodeUsed}
 use Rattle.mount_make.specs.Made.{made_volume}
 use Rattle.mount_make.proofs.MadeVolumes.{same}
 use Rattle.call_sessions.specs.made.MadeSessions.{made_now}
-use Rattle.clean_volumes.specs.Marked.{IsMarked}
-use Rattle.clean_volumes.specs.changed.Tidy.{IsTidy}
-use Rattle.clean_volumes.proofs.ChangedLemmas.BareNodes.{two_slots_only}
-use Rattle.clean_volumes.proofs.ChangedLemmas.BareZones.{zero_record}
+use Rattle.vol_check.specs.kept_clean.Marked.{IsMarked}
+use Rattle.vol_check.specs.kept_clean.changed.Tidy.{IsTidy}
+use Rattle.vol_check.proofs.KeptCleanLemmas.ChangedLemmas.BareNodes.{two_slots_only}
+use Rattle.vol_check.proofs.KeptCleanLemmas.ChangedLemmas.BareZones.{zero_record}
 
 -- ---- an inode of zeros
 

@@ -11,7 +11,7 @@ ghost use Rattle.vol_check.specs.Images.{HasVolume};
 ghost use Rattle.crash_laws.specs.Session.{Medium};
 ghost use Rattle.host_machine.specs.runs.Runs.{Event};
 ghost use Rattle.call_sessions.specs.Sessions.{WriteBytes};
-ghost use Rattle.power_cuts.specs.calls.CallImages.{made_session, IsCut};
+ghost use Rattle.call_sessions.specs.power_cuts.calls.CallImages.{made_session, IsCut};
 ghost use Rattle.session_grammar.specs.declared.session_script.SessionScript.{SessionScript};
 ghost use Rattle.session_grammar.specs.WellFormed.{IsWellFormed};
 ghost use Rattle.session_core.specs.Headline.{Headline};

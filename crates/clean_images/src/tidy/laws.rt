@@ -2,11 +2,11 @@
 ghost use Rattle.minix_layout.specs.declared.division.Geometry.{Geometry};
 ghost use Rattle.minix_layout.specs.Geometry.{IsSound};
 ghost use Rattle.call_sessions.specs.made.MadeSessions.{made_now};
-ghost use Rattle.clean_volumes.specs.changed.Tidy.{IsTidy};
+ghost use Rattle.vol_check.specs.kept_clean.changed.Tidy.{IsTidy};
 
 use crate::sessions::made_volumes_are_clean;
 use call_sessions::made::sessions_on_made_images_keep_rules_and_trees;
-use clean_volumes::marked_volumes_are_clean;
+use vol_check::kept_clean::marked_volumes_are_clean;
 
 /// A law, which only calls laws: the volume of an image that was made is tidy, however it is divided.
 pub fn made_volumes_are_tidy()

@@ -16,12 +16,12 @@ use Rattle.flush_actor.specs.Kinds.{is_data}
 use Rattle.host_machine.specs.State.{Host}
 use Rattle.host_machine.specs.runs.Runs.{Event}
 use Rattle.minix_host.specs.Calls.{kind_of}
-use Rattle.power_cuts.specs.calls.CallImages.{found_in, made_session, submitted_by, kept_count, kept_tree, KeepsFiles, ShowsFiles}
+use Rattle.call_sessions.specs.power_cuts.calls.CallImages.{found_in, made_session, submitted_by, kept_count, kept_tree, KeepsFiles, ShowsFiles}
 use Rattle.call_sessions.specs.promises.Answers.{AnsweredAt, HasOkCause, KeepsPromises}
 use Rattle.call_sessions.specs.promises.Causes.{HadCome, HaveCauses}
 use Rattle.call_sessions.specs.promises.Legal.{events_in, program_of, FollowsTree}
 use Rattle.session_grammar.specs.declared.session_script.SessionScript.{SessionScript}
-use Rattle.session_run.specs.declared.session.SessionEnd.{SessionEnd}
+use Rattle.session_core.specs.declared.run.session.SessionEnd.{SessionEnd}
 use Rattle.session_core.specs.Core.{geometry_of, opening_of}
 
 -- what the power cut left of a session

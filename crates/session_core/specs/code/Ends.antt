@@ -7,8 +7,8 @@ use Rattle.order_model.specs.Steps.{IsTraceOf}
 use Rattle.schedulers.specs.reassign.Scheduler.{SchedSteps, IsSchedRecord}
 use Rattle.stack_core.specs.Headline.{KeepsOrder}
 use Rattle.session_grammar.specs.declared.session_script.SessionScript.{SessionScript}
-use Rattle.session_run.specs.machine.Machine.{SessionState, core_session}
-use Rattle.session_run.specs.declared.session.SessionEnd.{SessionEnd}
+use Rattle.session_core.specs.run.machine.Machine.{SessionState, core_session}
+use Rattle.session_core.specs.declared.run.session.SessionEnd.{SessionEnd}
 use Rattle.session_core.specs.Core.{EndState, IsDeviceOf, opening_of, start_of}
 pub use Rattle.session_core.specs.Core.{IsBehind}
 

@@ -1,7 +1,7 @@
 use Rattle.std.proofs.Common.{refl, sym, subst, arith}
 use Rattle.journal_ring.specs.running.Open.{quota}
 use Rattle.mount_make.specs.Made.{new_journal}
-use Rattle.session_run.specs.Beginning.{made_now, made_ring}
+use Rattle.session_core.specs.run.Beginning.{made_now, made_ring}
 use Rattle.session_core.specs.Core.{geometry_of, opening_of}
 use Rattle.session_core.specs.code.Cuts.{CutFacts, medium_left}
 use Rattle.session_core.proofs.Made.{script_writes_bytes, sound_of}

@@ -1,6 +1,6 @@
 use Rattle.std.proofs.Common.{length}
 use Rattle.order_model.specs.Machine.{machine_of}
-use Rattle.session_run.specs.machine.Machine.{opened_session, events_of}
+use Rattle.session_core.specs.run.machine.Machine.{opened_session, events_of}
 use Rattle.session_core.specs.Core.{opening_of, start_of}
 use Rattle.session_core.specs.code.Ends.{session_on}
 use Rattle.session_core.proofs.Made.{with_threads, ends_in, keeps_order, behind_of, device_of, end_fits}

@@ -1,5 +1,0 @@
-use Rattle.clean_volumes.proofs.PlainClean.{marked_clean, clean_marked}
-use Rattle.clean_volumes.proofs.laws.marked_volumes_are_clean.Goals as goal
-
-pub returns : goal.returns
-returns c v plain = (clean_marked v plain, marked_clean v plain)

@@ -1,6 +1,0 @@
-use Rattle.power_cuts.proofs.RecoveryLemmas.FoundSessions.{found_is_kept}
-use Rattle.power_cuts.proofs.recovery.laws.found_is_what_was_kept.Goals as goal
-
-pub returns : goal.returns
-returns c = λ s events m sizes cut.
-    found_is_kept s sizes (c.new_volumes_are_in_use.ensures s.geometry sizes.sound) events m cut (c.made_images_are_plain.ensures.plain s.geometry s.journal s.wide sizes.sound sizes.least sizes.most).0

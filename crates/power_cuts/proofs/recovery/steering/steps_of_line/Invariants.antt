@@ -1,7 +1,0 @@
-use Rattle.std.proofs.Common.{◌≡◌, ◌++◌, drop, map}
-use Rattle.power_cuts.specs.recovery.code.WordSteps.{repeated_of}
-use Rattle.power_cuts.proofs.recovery.steering.steps_of_line.Given as goal
-
--- the steps so far, and those of the words that are left, are those of all words
-abbrev pub invariant-loop-steer : goal.invariant-loop-steer
-invariant-loop-steer l = l.steps.items ++ map repeated_of (drop l.steer-index l.steer-items) ≡ map repeated_of l.steer-items

@@ -1,2 +1,0 @@
--- What a session on an image that was made keeps, for the crates above.
-pub use Rattle.power_cuts.specs.images.SessionImages.{Start, HasSizes, IsCutOf, HoldsKept, host_of, submitted, kept_transactions, kept_tree}

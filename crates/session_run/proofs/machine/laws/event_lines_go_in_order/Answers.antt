@@ -1,9 +1,0 @@
-use Rattle.order_model.specs.Machine.{machine_of}
-use Rattle.session_run.proofs.MachineLemmas.SessionRuns.{events_append, events_repeat}
-use Rattle.session_run.proofs.machine.laws.event_lines_go_in_order.Goals as goal
-
-pub returns : goal.returns
-returns g c = record {
-  one_behind_another = λ s r first more. events_append s g.S.Scheduler.steps (machine_of g.D.OrderedDev) r first more;
-  repeats = λ s r n es. events_repeat s g.S.Scheduler.steps (machine_of g.D.OrderedDev) n r es;
-}

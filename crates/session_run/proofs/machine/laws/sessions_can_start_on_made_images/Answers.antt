@@ -1,5 +1,0 @@
-use Rattle.session_run.proofs.MachineLemmas.MadeStart.{made_can_start}
-use Rattle.session_run.proofs.machine.laws.sessions_can_start_on_made_images.Goals as goal
-
-pub returns : goal.returns
-returns c = made_can_start

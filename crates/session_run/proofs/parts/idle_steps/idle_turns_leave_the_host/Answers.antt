@@ -1,9 +1,0 @@
-use Rattle.session_run.proofs.PartsLemmas.Idling.{commit_leaves, writeback_leaves, flush_leaves}
-use Rattle.session_run.proofs.parts.idle_steps.idle_turns_leave_the_host.Goals as goal
-
-pub returns : goal.returns
-returns g c = record {
-  commit = λ m u full h. commit_leaves m u full h;
-  writeback = λ m u full h pick. writeback_leaves m u full h pick;
-  flush = λ m u full h next. flush_leaves m u full h next;
-}

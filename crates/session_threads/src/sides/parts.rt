@@ -1,0 +1,12 @@
+//! What comes out of the three locks.
+use crate::sides::beside::Effects;
+use host_core::Host;
+
+/// The parts of a session that has ended, and the events that led to them.
+#[derive(Drop)]
+pub struct JoinedParts<S, D> {
+    pub host: Host,
+    pub sched: S,
+    pub dev: D,
+    pub effects: Effects,
+}

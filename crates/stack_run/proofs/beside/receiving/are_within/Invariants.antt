@@ -1,6 +1,0 @@
-use Rattle.std.proofs.Common.{◌≡◌, drop}
-use Rattle.stack_run.specs.beside.Admitted.{all_within}
-use Rattle.stack_run.proofs.beside.receiving.are_within.Given as goal
-
-abbrev pub invariant-loop-part : goal.invariant-loop-part
-invariant-loop-part l = all_within l.blocks (drop l.part-index l.part-items) ≡ all_within l.blocks l.command.parts

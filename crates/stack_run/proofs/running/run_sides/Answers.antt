@@ -1,8 +1,0 @@
-use Rattle.std.proofs.Common.{sym, ◌∙◌}
-use Rattle.stack_run.proofs.Fits.{ended_as}
-use Rattle.stack_run.proofs.running.run_sides.Goals as goal
-
-pub returns-then-has_ended-clause-ended : goal.returns-then-has_ended-clause-ended
-returns-then-has_ended-clause-ended g c =
-    let out = c.joined-then-has_ended.ensures in
-    ended_as c.args.cut _ _ _ _ _ _ (out.host ∙ sym c.host.ensures) (out.sched ∙ sym c.sched.ensures) (out.dev ∙ sym c.dev.ensures) (c.has_ended.ensures.0 c.if-has_ended.true)
