@@ -10,7 +10,7 @@ use Rattle.script_words.specs.laws.Texts.{kept_lines}
 use Rattle.minix_layout.specs.declared.limits.TheConstants.{LEAST_JOURNAL, MOST_JOURNAL, MOST_NUMBERED}
 use Rattle.session_grammar.specs.declared.limits.TheConstants.{JOURNALS}
 use Rattle.session_grammar.specs.declared.reading.Section.TheVariants as sections
-use Rattle.session_grammar.specs.declared.reading.HeaderSoFar.{HeaderSoFar}
+use Rattle.session_grammar.specs.declared.header.HeaderSoFar.{HeaderSoFar}
 use Rattle.session_grammar.specs.declared.reading.VolumeForm.{VolumeForm}
 use Rattle.session_grammar.specs.declared.session_script.SessionHeader.{SessionHeader}
 use Rattle.session_grammar.specs.declared.session_script.SessionScript.{SessionScript}

@@ -13,7 +13,7 @@ use Rattle.script_grammar.proofs.SaidWords.{default_text}
 use Rattle.script_words.proofs.Counts.{one_text}
 use Rattle.session_grammar.specs.declared.limits.TheConstants.{DEFAULT_LIMIT, DEFAULT_SEED, MOST_SEED, MOST_SESSION}
 use Rattle.session_grammar.specs.declared.reading.Reading.{Reading}
-use Rattle.session_grammar.specs.declared.reading.HeaderSoFar.{HeaderSoFar}
+use Rattle.session_grammar.specs.declared.header.HeaderSoFar.{HeaderSoFar}
 use Rattle.session_grammar.specs.declared.reading.VolumeForm.{VolumeForm}
 use Rattle.session_grammar.specs.declared.session_script.SessionHeader.{SessionHeader}
 use Rattle.session_grammar.specs.declared.session_script.SessionScript.{SessionScript}

@@ -38,7 +38,7 @@ use Rattle.session_grammar.specs.declared.limits.TheConstants.{JOURNALS, MOST_CA
 use Rattle.session_grammar.specs.declared.reading.Reading.{Reading}
 use Rattle.session_grammar.specs.declared.reading.Section.{Section}
 use Rattle.session_grammar.specs.declared.reading.Section.TheVariants as sections
-use Rattle.session_grammar.specs.declared.reading.HeaderSoFar.{HeaderSoFar}
+use Rattle.session_grammar.specs.declared.header.HeaderSoFar.{HeaderSoFar}
 use Rattle.session_grammar.specs.declared.reading.VolumeForm.{VolumeForm}
 use Rattle.session_grammar.specs.declared.session_script.SessionScript.{SessionScript}
 use Rattle.script_grammar.specs.declared.words.FirstWord.TheVariants as first

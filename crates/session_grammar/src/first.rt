@@ -1,9 +1,10 @@
 //! The first line of a volume script.
 ghost use Rattle.std.specs.Prelude.{◌≡◌, ◌≢◌, map};
-ghost use Rattle.session_grammar.specs.Grammar.{are_sizes, have_geometry, none_told, new_reading, opened, sizes_taken, form_with, form_told, wide_told, journal_line, zones_line, volume_line, known_first, first_line};
+ghost use Rattle.session_grammar.specs.Grammar.{are_sizes, have_geometry, new_reading, opened, sizes_taken, form_with, form_told, wide_told, journal_line, zones_line, volume_line, known_first, first_line};
 
+use crate::header::none_told;
 use crate::limits::JOURNALS;
-use crate::reading::{HeaderSoFar, Reading, Section, VolumeForm};
+use crate::reading::{Reading, Section, VolumeForm};
 use crate::words::Word;
 use line_grammar::calls::{LineList, Programs};
 use line_grammar::events::{Events, SteerList};
@@ -30,21 +31,6 @@ fn have_geometry(inodes: u16, zones: u16, journal: u32) -> bool
     Geometry::make(inodes, zones, DEFAULT_WIDTH).is_ok()
         && journal >= LEAST_JOURNAL
         && journal <= MOST_JOURNAL
-}
-
-fn none_told() -> HeaderSoFar
-    ensures { result ≡ none_told }
-{
-    HeaderSoFar {
-        depth: None,
-        queue: None,
-        limit: None,
-        fail: None,
-        cut: None,
-        seed: None,
-        elevator: false,
-        flash: None,
-    }
 }
 
 fn new_reading(alloc: Global, inodes: u16, zones: u16, journal: u32, form: VolumeForm) -> Reading

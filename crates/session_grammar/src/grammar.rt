@@ -1,21 +1,18 @@
 //! Reads volume scripts, line by line.
-ghost use Rattle.std.specs.Prelude.{◌≡◌, ℕ, ◌+◌, ◌^◌, ◌<◌, ◌≤◌, true, None, map, length, IfOk, unwrap_or};
+ghost use Rattle.std.specs.Prelude.{◌≡◌, ℕ, ◌+◌, ◌^◌, ◌<◌, ◌≤◌, true, None, map, length, IfOk};
 ghost use Rattle.script_grammar.specs.code.Readers.{IsReadAs, IsTextReadAs};
-ghost use Rattle.session_grammar.specs.Grammar.{is_submit, stands_in, has_threads, may_stand, stood_before, line_taken, later_line, is_behind_events, read_words, read_line, header_of, script_read, ended, read_from, session_of};
+ghost use Rattle.session_grammar.specs.Grammar.{is_submit, stands_in, has_threads, may_stand, stood_before, line_taken, later_line, is_behind_events, read_words, read_line, script_read, ended, read_from, session_of};
 ghost use Rattle.session_grammar.specs.WellFormed.{IsWellFormed};
 
 use crate::body::{call_taken, event_taken, events_line, recover_taken, thread_line};
 use crate::first::first_line;
-use crate::header::{header_taken, is_told};
-use crate::limits::{DEFAULT_LIMIT, DEFAULT_SEED};
-use crate::reading::{HeaderSoFar, Reading, Section};
-use crate::session_script::{SessionHeader, SessionScript};
+use crate::header::{HeaderSoFar, header_of, header_taken, is_told};
+use crate::reading::{Reading, Section};
+use crate::session_script::SessionScript;
 use crate::word_table::read_word;
 use crate::words::{HeaderWord, Word};
 use line_grammar::events::{EventFirst, PlainWord};
-use script_grammar::{
-    DEFAULT_DEPTH, DEFAULT_QUEUE, LineError, MOST_SCRIPT_BYTES, ScriptError, ScriptKind, fault_at,
-};
+use script_grammar::{LineError, MOST_SCRIPT_BYTES, ScriptError, ScriptKind, fault_at};
 use script_words::{is_skipped, lines, words};
 use std::alloc::Global;
 
@@ -167,21 +164,6 @@ fn read_line(
     match read_words(alloc, reading, line, &words) {
         Ok(reading) => Ok(Some(reading)),
         Err(fault) => Err(fault_at(number, fault)),
-    }
-}
-
-fn header_of(told: HeaderSoFar) -> SessionHeader
-    ensures { result ≡ header_of told }
-{
-    SessionHeader {
-        depth: told.depth.unwrap_or(DEFAULT_DEPTH),
-        queue: told.queue.unwrap_or(DEFAULT_QUEUE),
-        limit: told.limit.unwrap_or(DEFAULT_LIMIT),
-        fail: told.fail,
-        cut: told.cut,
-        seed: told.seed.unwrap_or(DEFAULT_SEED),
-        elevator: told.elevator,
-        flash: told.flash,
     }
 }
 

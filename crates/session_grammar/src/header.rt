@@ -1,14 +1,46 @@
-//! The header lines.
+//! The header lines: what each may say, and what one that is missing stands for.
 ghost use Rattle.std.specs.Prelude.{◌≡◌, true, map, is_some};
-ghost use Rattle.session_grammar.specs.Grammar.{told_number, number_fits, with_number, number_taken, header_line, header_taken};
+ghost use Rattle.session_grammar.specs.Grammar.{none_told, told_number, number_fits, with_number, number_taken, header_line, header_taken, header_of};
 
-use crate::limits::{MOST_SEED, MOST_SESSION};
-use crate::reading::{HeaderSoFar, Reading};
+use crate::limits::{DEFAULT_LIMIT, DEFAULT_SEED, MOST_SEED, MOST_SESSION};
+use crate::reading::Reading;
+use crate::session_script::SessionHeader;
 use crate::words::{HeaderWord, NumberWord};
 use script_grammar::{
-    FEWEST_SEGMENTS, MOST_DEPTH, MOST_QUEUE, MOST_SEGMENTS, MOST_STEPS, MOST_TRANSFERS, ScriptKind,
+    DEFAULT_DEPTH, DEFAULT_QUEUE, FEWEST_SEGMENTS, MOST_DEPTH, MOST_QUEUE, MOST_SEGMENTS,
+    MOST_STEPS, MOST_TRANSFERS, ScriptKind,
 };
 use script_words::numeral;
+
+/// What the header lines said so far.
+#[derive(Clone, Copy, PartialEq, Eq, Debug)]
+pub struct HeaderSoFar {
+    pub depth: Option<u32>,
+    pub queue: Option<u32>,
+    pub limit: Option<u64>,
+    pub fail: Option<u64>,
+    pub cut: Option<u64>,
+    pub seed: Option<u64>,
+    /// The line `elevator` stood.
+    pub elevator: bool,
+    pub flash: Option<u32>,
+}
+
+/// No header line stood yet.
+pub fn none_told() -> HeaderSoFar
+    ensures { result ≡ none_told }
+{
+    HeaderSoFar {
+        depth: None,
+        queue: None,
+        limit: None,
+        fail: None,
+        cut: None,
+        seed: None,
+        elevator: false,
+        flash: None,
+    }
+}
 
 /// The header line with this word stood before.
 pub fn is_told(told: HeaderSoFar, word: NumberWord) -> bool
@@ -99,4 +131,20 @@ pub fn header_taken(
 {
     reading.told = header_line(reading.told, word, words)?;
     Ok(reading)
+}
+
+/// The values of the header, with the defaults of lines that are missing.
+pub fn header_of(told: HeaderSoFar) -> SessionHeader
+    ensures { result ≡ header_of told }
+{
+    SessionHeader {
+        depth: told.depth.unwrap_or(DEFAULT_DEPTH),
+        queue: told.queue.unwrap_or(DEFAULT_QUEUE),
+        limit: told.limit.unwrap_or(DEFAULT_LIMIT),
+        fail: told.fail,
+        cut: told.cut,
+        seed: told.seed.unwrap_or(DEFAULT_SEED),
+        elevator: told.elevator,
+        flash: told.flash,
+    }
 }

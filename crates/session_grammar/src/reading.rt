@@ -1,4 +1,5 @@
 //! What was read of a volume script so far.
+use crate::header::HeaderSoFar;
 use line_grammar::calls::{LineList, Programs};
 use line_grammar::events::{Events, SteerList};
 
@@ -9,20 +10,6 @@ pub enum Section {
     Opening,
     Events,
     Recovery,
-}
-
-/// What the header lines said so far.
-#[derive(Clone, Copy, PartialEq, Eq, Debug)]
-pub struct HeaderSoFar {
-    pub depth: Option<u32>,
-    pub queue: Option<u32>,
-    pub limit: Option<u64>,
-    pub fail: Option<u64>,
-    pub cut: Option<u64>,
-    pub seed: Option<u64>,
-    /// The line `elevator` stood.
-    pub elevator: bool,
-    pub flash: Option<u32>,
 }
 
 /// The form of a volume, as the words behind its sizes choose it.
