@@ -5,7 +5,7 @@ use Rattle.script_words.specs.laws.Texts.{kept_lines}
 use Rattle.session_grammar.specs.laws.Accepted.{SayEvents}
 use Rattle.session_grammar.specs.laws.Speller.{recover_words}
 use Rattle.wal_store.specs.calls.Calls.{fill_count}
-use Rattle.store_grammar.specs.declared.reading.HeaderSoFar.{HeaderSoFar}
+use Rattle.store_grammar.specs.declared.header.HeaderSoFar.{HeaderSoFar}
 use Rattle.store_grammar.specs.declared.reading.Section.TheVariants as sections
 use Rattle.store_grammar.specs.declared.script.StoreHeader.{StoreHeader}
 use Rattle.store_grammar.specs.declared.script.StoreScript.{StoreScript}

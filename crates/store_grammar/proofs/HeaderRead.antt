@@ -12,7 +12,7 @@ use Rattle.script_grammar.proofs.SaidWords.{default_text}
 use Rattle.session_grammar.specs.laws.Speller.{number_words, number_lines}
 use Rattle.session_grammar.proofs.HeaderRead.{beginning-with, beginning-without}
 use Rattle.store_grammar.specs.declared.reading.Reading.{Reading}
-use Rattle.store_grammar.specs.declared.reading.HeaderSoFar.{HeaderSoFar}
+use Rattle.store_grammar.specs.declared.header.HeaderSoFar.{HeaderSoFar}
 use Rattle.store_grammar.specs.declared.script.StoreHeader.{StoreHeader}
 use Rattle.store_grammar.specs.declared.script.StoreScript.{StoreScript}
 use Rattle.store_grammar.specs.declared.words.HeaderWord.{HeaderWord}

@@ -36,7 +36,7 @@ use Rattle.store_grammar.specs.declared.limits.TheConstants.{MOST_STORE}
 use Rattle.store_grammar.specs.declared.reading.Reading.{Reading}
 use Rattle.store_grammar.specs.declared.reading.Section.{Section}
 use Rattle.store_grammar.specs.declared.reading.Section.TheVariants as sections
-use Rattle.store_grammar.specs.declared.reading.HeaderSoFar.{HeaderSoFar}
+use Rattle.store_grammar.specs.declared.header.HeaderSoFar.{HeaderSoFar}
 use Rattle.store_grammar.specs.declared.script.StoreScript.{StoreScript}
 use Rattle.store_grammar.specs.declared.words.HeaderWord.{HeaderWord}
 use Rattle.store_grammar.specs.declared.words.HeaderWord.TheVariants as header

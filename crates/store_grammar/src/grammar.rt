@@ -3,18 +3,16 @@ ghost use Rattle.std.specs.Prelude.{◌≡◌, ℕ, ◌+◌, ◌^◌, ◌<◌, �
 ghost use Rattle.script_grammar.specs.code.Readers.{IsReadAs, IsTextReadAs};
 ghost use Rattle.session_grammar.specs.Grammar.{is_submit};
 ghost use Rattle.store_grammar.specs.WellFormed.{IsWellFormed};
-ghost use Rattle.store_grammar.specs.Grammar.{stands_in, stood_before, line_taken, later_line, is_behind_events, read_words, read_line, header_of, script_read, ended, read_from, store_of};
+ghost use Rattle.store_grammar.specs.Grammar.{stands_in, stood_before, line_taken, later_line, is_behind_events, read_words, read_line, script_read, ended, read_from, store_of};
 
 use crate::body::{event_taken, events_line, flush_line, put_line, recover_taken};
-use crate::header::{first_line, header_taken, is_told};
-use crate::reading::{HeaderSoFar, Reading, Section};
-use crate::script::{StoreHeader, StoreScript};
+use crate::header::{HeaderSoFar, first_line, header_of, header_taken, is_told};
+use crate::reading::{Reading, Section};
+use crate::script::StoreScript;
 use crate::word_table::read_word;
 use crate::words::Word;
 use line_grammar::events::{EventFirst, PlainWord};
-use script_grammar::{
-    DEFAULT_DEPTH, DEFAULT_QUEUE, LineError, MOST_SCRIPT_BYTES, ScriptError, ScriptKind, fault_at,
-};
+use script_grammar::{LineError, MOST_SCRIPT_BYTES, ScriptError, ScriptKind, fault_at};
 use script_words::{is_skipped, lines, words};
 use std::alloc::Global;
 
@@ -157,17 +155,6 @@ fn read_line(
     match read_words(alloc, reading, &words) {
         Ok(reading) => Ok(Some(reading)),
         Err(fault) => Err(fault_at(number, fault)),
-    }
-}
-
-fn header_of(told: HeaderSoFar) -> StoreHeader
-    ensures { result ≡ header_of told }
-{
-    StoreHeader {
-        depth: told.depth.unwrap_or(DEFAULT_DEPTH),
-        queue: told.queue.unwrap_or(DEFAULT_QUEUE),
-        fail: told.fail,
-        cut: told.cut,
     }
 }
 

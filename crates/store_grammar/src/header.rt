@@ -1,16 +1,28 @@
-//! The first line and the header lines.
+//! The first line and the header lines, with what a missing one stands for.
 ghost use Rattle.std.specs.Prelude.{◌≡◌, ◌≤◌, true, map, is_some};
-ghost use Rattle.store_grammar.specs.Grammar.{none_told, new_reading, room_taken, store_line, first_line, told_number, number_fits, with_number, number_taken, header_line, header_taken};
+ghost use Rattle.store_grammar.specs.Grammar.{none_told, new_reading, room_taken, store_line, first_line, told_number, number_fits, with_number, number_taken, header_line, header_taken, header_of};
 
 use crate::limits::MOST_STORE;
-use crate::reading::{HeaderSoFar, Reading, Section};
+use crate::reading::{Reading, Section};
+use crate::script::StoreHeader;
 use crate::words::{HeaderWord, Word};
 use line_grammar::events::{Events, SteerList};
-use script_grammar::{MOST_DEPTH, MOST_QUEUE, MOST_STEPS, MOST_TRANSFERS, ScriptKind};
+use script_grammar::{
+    DEFAULT_DEPTH, DEFAULT_QUEUE, MOST_DEPTH, MOST_QUEUE, MOST_STEPS, MOST_TRANSFERS, ScriptKind,
+};
 use script_words::numeral;
 use std::alloc::Global;
 use wal_store::Ops;
 use wal_store::calls::fill_count;
+
+/// What the header lines said so far.
+#[derive(Clone, Copy, PartialEq, Eq, Debug)]
+pub struct HeaderSoFar {
+    pub depth: Option<u32>,
+    pub queue: Option<u32>,
+    pub fail: Option<u64>,
+    pub cut: Option<u64>,
+}
 
 fn none_told() -> HeaderSoFar
     ensures { result ≡ none_told }
@@ -155,5 +167,17 @@ pub fn header_taken(
             drop(reading);
             Err(kind)
         }
+    }
+}
+
+/// The values of the header, with the defaults of lines that are missing.
+pub fn header_of(told: HeaderSoFar) -> StoreHeader
+    ensures { result ≡ header_of told }
+{
+    StoreHeader {
+        depth: told.depth.unwrap_or(DEFAULT_DEPTH),
+        queue: told.queue.unwrap_or(DEFAULT_QUEUE),
+        fail: told.fail,
+        cut: told.cut,
     }
 }

@@ -1,4 +1,5 @@
 //! What was read of a store's script so far.
+use crate::header::HeaderSoFar;
 use line_grammar::events::{Events, SteerList};
 use wal_store::Ops;
 
@@ -10,15 +11,6 @@ pub enum Section {
     Asking,
     Events,
     Recovery,
-}
-
-/// What the header lines said so far.
-#[derive(Clone, Copy, PartialEq, Eq, Debug)]
-pub struct HeaderSoFar {
-    pub depth: Option<u32>,
-    pub queue: Option<u32>,
-    pub fail: Option<u64>,
-    pub cut: Option<u64>,
 }
 
 /// The state of reading between two lines.
