@@ -19,7 +19,7 @@ use std::alloc::Global;
 
 /// The parts of a running session.
 #[derive(Drop)]
-pub struct Running<S, D> {
+pub struct RunningSession<S, D> {
     pub host: Host,
     pub queues: SessionQueues,
     pub sched: S,
@@ -38,7 +38,7 @@ const BACK: [CoreEvent; 8] = [
     CoreEvent::Answer,
 ];
 
-impl<S: Scheduler, D: OrderedDev> Running<S, D> {
+impl<S: Scheduler, D: OrderedDev> RunningSession<S, D> {
     // The next command goes to the device, where there is one and there is room.
     fn receive(&mut self)
         requires { (c : Command) (cs : List Command) → self.old.queues.dispatched ≡ c ∷ cs → IsReceivable (D.seen (D.state self.old.dev)) c }

@@ -8,7 +8,7 @@ ghost use Rattle.session_core.specs.run.End.{IsEndOf, EndKeepsOrder};
 
 use crate::run::machine::sessions_keep_order_to_the_medium;
 use crate::run::queues::SessionQueues;
-use crate::run::running::Running;
+use crate::run::running::RunningSession;
 use blk_base::NoMemory;
 use host_core::Host;
 use line_grammar::events::EventLine;
@@ -47,7 +47,7 @@ pub fn run_session<S: Scheduler + Drop, D: OrderedDev + Drop>(
         drop(host);
         return Err(NoMemory);
     };
-    let mut running = Running {
+    let mut running = RunningSession {
         host,
         queues,
         sched,
@@ -57,7 +57,7 @@ pub fn run_session<S: Scheduler + Drop, D: OrderedDev + Drop>(
         drop(running);
         return Err(NoMemory);
     };
-    let Running {
+    let RunningSession {
         host,
         queues: _,
         sched,

@@ -7,7 +7,7 @@ use Rattle.line_grammar.specs.declared.events.event.CoreEvent.{CoreEvent}
 use Rattle.host_core.specs.Now.{HostNow}
 use Rattle.minix_host.specs.Sessions.{Opening}
 use Rattle.session_core.specs.run.machine.Machine.{SessionState, happens, run_events}
-use Rattle.session_core.specs.declared.run.running.Running.{Running}
+use Rattle.session_core.specs.declared.run.running.RunningSession.{RunningSession}
 use Rattle.session_core.specs.run.code.Queues.{QueuesNow, layer_queues}
 use Rattle.session_core.specs.run.Beginning.{Beginning}
 use Rattle.session_core.specs.run.code.Reached.{IsReached}
@@ -23,16 +23,16 @@ session_of h q sched dev = record {
 }
 
 module _ {A B : Type 0} (k : schedulers.Ghosts A) (d : devices.Ghosts B) where
-  abbrev pub state_of : Running A B → SessionState k.State d.State
+  abbrev pub state_of : RunningSession A B → SessionState k.State d.State
   state_of r = session_of r.host r.queues (k.state r.sched) (d.state r.dev)
 
   -- where an event leads from there, and where these do, one after the other
-  abbrev pub after_event : Opening → Running A B → CoreEvent → SessionState k.State d.State
+  abbrev pub after_event : Opening → RunningSession A B → CoreEvent → SessionState k.State d.State
   after_event s r event = happens s k.steps (machine_of d) (state_of r) event
 
-  abbrev pub after_events : Opening → Running A B → List CoreEvent → SessionState k.State d.State
+  abbrev pub after_events : Opening → RunningSession A B → List CoreEvent → SessionState k.State d.State
   after_events s r events = run_events s k.steps (machine_of d) (state_of r) events
 
   -- the session that begins so is there
-  abbrev pub IsAt : Beginning k.State d.State → Running A B → Type 0
+  abbrev pub IsAt : Beginning k.State d.State → RunningSession A B → Type 0
   IsAt b r = IsReached k.steps (machine_of d) k.valid d.valid b r.host (state_of r)

@@ -5,7 +5,7 @@ use Rattle.session_core.specs.run.machine.Fits.{IsDevice}
 use Rattle.session_core.specs.run.code.Session.{IsAt}
 use Rattle.session_core.specs.run.Beginning.{Beginning}
 use Rattle.session_core.proofs.RunLemmas.Reaching.{leads_flush, within_limit}
-use Rattle.session_core.proofs.run.running.Running.flush.Goals as goal
+use Rattle.session_core.proofs.run.running.RunningSession.flush.Goals as goal
 
 pub returns-then-taken-limit : goal.returns-then-taken-limit
 returns-then-taken-limit g c =

@@ -3,7 +3,7 @@ use Rattle.std.proofs.Common.{◌≡◌, ◌+◌, ◌-◌}
 use Rattle.session_core.specs.run.code.Session.{after_events, IsAt}
 use Rattle.session_core.specs.run.Beginning.{Beginning}
 use Rattle.session_core.proofs.RunLemmas.Lines.{calls_from}
-use Rattle.session_core.proofs.run.running.Running.call_all.Given as goal
+use Rattle.session_core.proofs.run.running.RunningSession.call_all.Given as goal
 
 abbrev pub invariant-loop-before : goal.invariant-loop-before
 invariant-loop-before g l =

@@ -4,7 +4,7 @@ use Rattle.order_model.specs.Machine.{machine_of}
 use Rattle.line_grammar.specs.declared.events.event.CoreEvent.TheVariants as events
 use Rattle.session_core.specs.run.code.Session.{state_of}
 use Rattle.session_core.proofs.RunLemmas.Lines.{run, all_more, all_end}
-use Rattle.session_core.proofs.run.running.Running.do_all.Goals as goal
+use Rattle.session_core.proofs.run.running.RunningSession.do_all.Goals as goal
 
 pub do_event-requires : goal.do_event-requires
 do_event-requires g c = (c.requires.0, c.loop-event.invariant.reached c.requires.0 c.requires.1)

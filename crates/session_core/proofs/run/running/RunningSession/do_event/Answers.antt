@@ -7,7 +7,7 @@ use Rattle.session_core.specs.run.code.Session.{after_event, IsAt}
 use Rattle.session_core.specs.run.Beginning.{Beginning}
 use Rattle.session_core.proofs.RunLemmas.Lines.{ok_both}
 use Rattle.session_core.proofs.RunLemmas.Reaching.{may_accept, may_receive, leads_call, leads_commit, leads_writeback, leads_accept, leads_dispatch, leads_transfer, leads_persist, leads_as}
-use Rattle.session_core.proofs.run.running.Running.do_event.Goals as goal
+use Rattle.session_core.proofs.run.running.RunningSession.do_event.Goals as goal
 
 pub accept-requires : goal.accept-requires
 accept-requires g c =

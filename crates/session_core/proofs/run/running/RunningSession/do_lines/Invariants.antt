@@ -3,7 +3,7 @@ use Rattle.std.proofs.Common.{◌≡◌, drop}
 use Rattle.session_core.specs.run.machine.Machine.{events_of}
 use Rattle.session_core.specs.run.code.Session.{after_events, IsAt}
 use Rattle.session_core.specs.run.Beginning.{Beginning}
-use Rattle.session_core.proofs.run.running.Running.do_lines.Given as goal
+use Rattle.session_core.proofs.run.running.RunningSession.do_lines.Given as goal
 
 abbrev pub invariant-loop-line : goal.invariant-loop-line
 invariant-loop-line g l =

@@ -7,7 +7,7 @@ use Rattle.line_grammar.specs.declared.events.event.EventWord.TheVariants.{One}
 use Rattle.session_core.specs.run.machine.Machine.{events_of}
 use Rattle.session_core.specs.run.code.Session.{state_of}
 use Rattle.session_core.proofs.RunLemmas.Lines.{run, lines_more, lines_end}
-use Rattle.session_core.proofs.run.running.Running.do_lines.Goals as goal
+use Rattle.session_core.proofs.run.running.RunningSession.do_lines.Goals as goal
 
 pub do_line-requires : goal.do_line-requires
 do_line-requires g c = (c.requires.0, c.loop-line.invariant.reached c.requires.0 c.requires.1)

@@ -3,7 +3,7 @@ use Rattle.std.proofs.Common.{◌≡◌, ◌-◌}
 use Rattle.session_core.specs.run.machine.Machine.{repeated, word_events}
 use Rattle.session_core.specs.run.code.Session.{after_events, IsAt}
 use Rattle.session_core.specs.run.Beginning.{Beginning}
-use Rattle.session_core.proofs.run.running.Running.do_line.Given as goal
+use Rattle.session_core.proofs.run.running.RunningSession.do_line.Given as goal
 
 abbrev pub invariant-loop-done : goal.invariant-loop-done
 invariant-loop-done g l =

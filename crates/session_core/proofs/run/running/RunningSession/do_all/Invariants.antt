@@ -2,7 +2,7 @@
 use Rattle.std.proofs.Common.{◌≡◌, drop}
 use Rattle.session_core.specs.run.code.Session.{after_events, IsAt}
 use Rattle.session_core.specs.run.Beginning.{Beginning}
-use Rattle.session_core.proofs.run.running.Running.do_all.Given as goal
+use Rattle.session_core.proofs.run.running.RunningSession.do_all.Given as goal
 
 abbrev pub invariant-loop-event : goal.invariant-loop-event
 invariant-loop-event g l =

@@ -5,7 +5,7 @@ use Rattle.session_core.specs.run.machine.Machine.{word_events, back}
 use Rattle.session_core.proofs.RunLemmas.MachineLemmas.SessionRuns.{events_append}
 use Rattle.session_core.specs.run.code.Session.{state_of, after_events}
 use Rattle.session_core.proofs.RunLemmas.Lines.{run, calls_from, one_event, ok_map}
-use Rattle.session_core.proofs.run.running.Running.do_word.Goals as goal
+use Rattle.session_core.proofs.run.running.RunningSession.do_word.Goals as goal
 
 pub do_all-requires : goal.do_all-requires
 do_all-requires g c = (c.requires.0, c.in_ok-call_all-in-Round.ensures.reached c.requires.0 c.requires.1)

@@ -1,7 +1,7 @@
 -- The queues hand the device what is first in them.
 use Rattle.order_model.specs.Machine.{machine_of}
 use Rattle.session_core.proofs.RunLemmas.Handed.{handed_parts}
-use Rattle.session_core.proofs.run.running.Running.receive.Goals as goal
+use Rattle.session_core.proofs.run.running.RunningSession.receive.Goals as goal
 
 pub returns-clause-step : goal.returns-clause-step
 returns-clause-step g c = λ s.

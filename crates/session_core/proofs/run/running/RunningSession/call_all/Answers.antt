@@ -3,7 +3,7 @@ use Rattle.std.proofs.Common.{◌+◌, ◌-◌, sym, ap, ◌∙◌}
 use Rattle.order_model.specs.Machine.{machine_of}
 use Rattle.session_core.specs.run.code.Session.{state_of}
 use Rattle.session_core.proofs.RunLemmas.Lines.{run, calls_from, calls_more, calls_end}
-use Rattle.session_core.proofs.run.running.Running.call_all.Goals as goal
+use Rattle.session_core.proofs.run.running.RunningSession.call_all.Goals as goal
 
 pub do_event-requires : goal.do_event-requires
 do_event-requires g c = (c.requires.0, c.loop-before.invariant.reached c.requires.0 c.requires.1)

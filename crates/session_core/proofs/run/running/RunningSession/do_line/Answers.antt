@@ -4,7 +4,7 @@ use Rattle.order_model.specs.Machine.{machine_of}
 use Rattle.session_core.specs.run.machine.Machine.{repeated, word_events}
 use Rattle.session_core.specs.run.code.Session.{state_of}
 use Rattle.session_core.proofs.RunLemmas.Lines.{run, repeats_more, repeats_end}
-use Rattle.session_core.proofs.run.running.Running.do_line.Goals as goal
+use Rattle.session_core.proofs.run.running.RunningSession.do_line.Goals as goal
 
 pub do_word-requires : goal.do_word-requires
 do_word-requires g c = (c.requires.0, c.loop-done.invariant.reached c.requires.0 c.requires.1)
