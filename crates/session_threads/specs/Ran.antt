@@ -21,14 +21,14 @@ use Rattle.session_threads.specs.sides.Ended.{HasEnded}
 use Rattle.session_threads.specs.Replayed.{AreReplayed}
 use Rattle.session_threads.specs.declared.report.ThreadsEnd.{ThreadsEnd}
 use Rattle.session_threads.specs.declared.report.ThreadsReport.{ThreadsReport}
-use Rattle.session_threads.specs.declared.running.Room.{Room}
+use Rattle.session_threads.specs.declared.running.SharedRoom.{SharedRoom}
 
 -- with which numbers scheduler and device of a script's session are made
 abbrev pub part_setup : SessionScript → PartSetup
 part_setup s = record { limit = s.header.limit; depth = s.header.depth; segments = unwrap_or s.header.flash 0; fail_at = s.header.fail; cut_at = s.header.cut }
 
 -- new queues with their passes, and for each of so many ids a flag that is down
-pub record HasRoom (limit : ℕ) (room : Room) : Type 0 where
+pub record HasRoom (limit : ℕ) (room : SharedRoom) : Type 0 where
   pub passes : ArePassesOf room.queues room.passes
   pub fresh : AreNew room.passes
   pub sched_ids : room.sched_ids ≡ replicate limit false

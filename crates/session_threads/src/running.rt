@@ -40,7 +40,7 @@ use std::sync::Wait;
 use std::thread::Threads;
 
 // What the sides of a session need besides their parts: the queues between them, and a flag for each id.
-struct Room {
+struct SharedRoom {
     queues: Queues,
     passes: Passes,
     sched_ids: IdFlags,
@@ -52,13 +52,13 @@ fn make_room<H: Wait + Sync>(
     rt: &H,
     alloc: Global,
     script: &SessionScript,
-) -> Result<Room, NoMemory>
+) -> Result<SharedRoom, NoMemory>
     requires { IsWellFormed script.now }
     ensures { IfOk result (HasRoom script.now.header.limit) }
 {
     let limit = script.header.limit as usize;
     let (queues, passes) = make_queues(rt, alloc, script.header.queue)?;
-    Ok(Room {
+    Ok(SharedRoom {
         queues,
         passes,
         sched_ids: IdFlags::make(alloc, limit)?,
@@ -190,7 +190,7 @@ fn run_parts<
         drop(dev);
         return Err(NoMemory);
     };
-    let Room {
+    let SharedRoom {
         queues,
         passes,
         sched_ids,
