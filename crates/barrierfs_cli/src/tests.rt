@@ -27,16 +27,16 @@ pub fn end_of<R: Source, W: Sink>(
 
 // How the program ended, and what was written.
 #[derive(Drop)]
-pub struct Printed {
+pub struct Outcome {
     pub ended: Ended,
     pub printed: Vec<u8>,
 }
 
-pub fn run(alloc: Global, list: &[&str], input: &[u8]) -> Result<Printed, NoMemory> {
+pub fn run(alloc: Global, list: &[&str], input: &[u8]) -> Result<Outcome, NoMemory> {
     let mut source = MemSource::new(input.to_vec(alloc)?, Vec::new(alloc));
     let mut sink = MemSink::new(Vec::new(alloc), Vec::new(alloc));
     let ended = end_of(alloc, list, &mut source, &mut sink)?;
-    Ok(Printed {
+    Ok(Outcome {
         ended,
         printed: sink.bytes().to_vec(alloc)?,
     })
@@ -90,7 +90,7 @@ pub fn expect_tree(
 }
 
 // This fault ended a run before anything was written.
-pub fn expect_fault(rt: &impl Abort, found: &Printed, status: u8, fault: TopFault, what: &str) {
+pub fn expect_fault(rt: &impl Abort, found: &Outcome, status: u8, fault: TopFault, what: &str) {
     let ended = Ended {
         status,
         fault: Some(fault),
