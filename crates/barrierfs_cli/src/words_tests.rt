@@ -1,6 +1,6 @@
 //! Lists of words beside their statuses, through the top call, and how a process gives them.
 use crate::tests::refused;
-use barrierfs_top::{Command, Task, TopFault, given_words};
+use barrierfs_top::{InputTask, Task, TopFault, given_words};
 use std::env::FillError;
 use std::rt::Env;
 use std::test::Fail;
@@ -111,7 +111,7 @@ impl Env for Given {
 
 #[test]
 fn takes_words_that_are_texts(rt: HostRuntime) -> Result<(), Fail> {
-    let replay = Task::Read(Command::Replay { raw: false });
+    let replay = Task::Read(InputTask::Replay { raw: false });
     let rows: [(&'static [u8], Result<Option<Task>, TopFault>); 3] = [
         (b"replay", Ok(Some(replay))),
         (b"rep", Ok(None)),

@@ -15,8 +15,8 @@ use Rattle.barrierfs_top.specs.Bulk.{IsWorkload}
 use Rattle.barrierfs_top.specs.declared.fault.TopFault.{TopFault}
 use Rattle.barrierfs_top.specs.declared.fault.TopFault.TheVariants as faults
 use Rattle.barrierfs_top.specs.declared.top.Printed.{Printed}
-use Rattle.barrierfs_top.specs.declared.command_line.Command.{Command}
-use Rattle.barrierfs_top.specs.declared.command_line.Command.TheVariants as commands
+use Rattle.barrierfs_top.specs.declared.command_line.InputTask.{InputTask}
+use Rattle.barrierfs_top.specs.declared.command_line.InputTask.TheVariants as commands
 use Rattle.barrierfs_top.specs.declared.run_report.RunReport.{RunReport}
 use Rattle.barrierfs_top.specs.Sessions.{is_session}
 use Rattle.barrierfs_top.specs.declared.command_line.Sizes.{Sizes}
@@ -30,7 +30,7 @@ use Rattle.barrierfs_top.proofs.OneEnd.{one_end}
 -- ---- before the first write
 
 -- what a command makes of the input that was read
-pub does_if : (words : List (List ℕ)) (source : Stream) (c : Command) (input : List ℕ) (r : Result Printed TopFault) → task_of words ≡ Some (tasks.Read c)
+pub does_if : (words : List (List ℕ)) (source : Stream) (c : InputTask) (input : List ℕ) (r : Result Printed TopFault) → task_of words ≡ Some (tasks.Read c)
     → Drained source.bytes source.bytes_after input → length input ≤ most_of c → IfOk r (λ p. Makes c input p.report (output_bytes p.output))
     → IfOk r (λ p. Does words source p.report (output_bytes p.output))
 does_if words source c input (Ok p) asked drained short makes = record {
@@ -40,7 +40,7 @@ does_if words source c input (Ok p) asked drained short makes = record {
 }
 does_if words source c input (Err fault) asked drained short makes = tt
 
-refused : (words : List (List ℕ)) (source : Stream) (c : Command) (input : List ℕ) (fault : TopFault) → task_of words ≡ Some (tasks.Read c)
+refused : (words : List (List ℕ)) (source : Stream) (c : InputTask) (input : List ℕ) (fault : TopFault) → task_of words ≡ Some (tasks.Read c)
     → Drained source.bytes source.bytes_after input → length input ≤ most_of c → Ends c input (Some fault) → IsRefused words source fault
 refused words source c input fault asked drained short is = record {
   command = c;
@@ -48,7 +48,7 @@ refused words source c input fault asked drained short is = record {
   read = record { input = input; drained = drained; short = short; holds = is };
 }
 
-cause_of : (words : List (List ℕ)) (source : Stream) (c : Command) (input : List ℕ) (fault : TopFault) → task_of words ≡ Some (tasks.Read c)
+cause_of : (words : List (List ℕ)) (source : Stream) (c : InputTask) (input : List ℕ) (fault : TopFault) → task_of words ≡ Some (tasks.Read c)
     → Drained source.bytes source.bytes_after input → length input ≤ most_of c → IsInputFault c input fault → Cause words source fault
 cause_of words source c input (faults.Script line kind) asked drained short is = refused words source c input (faults.Script line kind) asked drained short is
 cause_of words source c input (faults.Image kind block) asked drained short is = refused words source c input (faults.Image kind block) asked drained short is
@@ -61,7 +61,7 @@ cause_of words source c input faults.SinkFault asked drained short is = absurd i
 cause_of words source c input faults.TooLong asked drained short is = absurd is
 
 -- the fault of the input that was read
-pub cause_if : (words : List (List ℕ)) (source : Stream) (c : Command) (input : List ℕ) (r : Result Printed TopFault) → task_of words ≡ Some (tasks.Read c)
+pub cause_if : (words : List (List ℕ)) (source : Stream) (c : InputTask) (input : List ℕ) (r : Result Printed TopFault) → task_of words ≡ Some (tasks.Read c)
     → Drained source.bytes source.bytes_after input → length input ≤ most_of c → IfErr r (IsInputFault c input) → IfErr r (Cause words source)
 cause_if words source c input (Ok p) asked drained short is = tt
 cause_if words source c input (Err fault) asked drained short is = cause_of words source c input fault asked drained short is
@@ -186,24 +186,24 @@ front_read (Some left) (Some rest) text told e d =
     let m = ap length (sym s ∙ d) in
     omega arith
 
-pub one_command : (words : List (List ℕ)) (c d : Command) → task_of words ≡ Some (tasks.Read c) → task_of words ≡ Some (tasks.Read d) → c ≡ d
+pub one_command : (words : List (List ℕ)) (c d : InputTask) → task_of words ≡ Some (tasks.Read c) → task_of words ≡ Some (tasks.Read d) → c ≡ d
 one_command words c d this that = let e : tasks.Read c ≡ tasks.Read d = same_Some (tasks.Read c) (tasks.Read d) (sym this ∙ that) in cc
 
-no_command : (words : List (List ℕ)) (c : Command) → task_of words ≡ None → task_of words ≡ Some (tasks.Read c) → ⊥
+no_command : (words : List (List ℕ)) (c : InputTask) → task_of words ≡ None → task_of words ≡ Some (tasks.Read c) → ⊥
 no_command words c none some = none-some (tasks.Read c) (sym none ∙ some)
 
-short_input : (c : Command) (text : List ℕ) (end : Option TopFault) → length text ≤ most_of c → Ends c text end → Expects c text end
+short_input : (c : InputTask) (text : List ℕ) (end : Option TopFault) → length text ≤ most_of c → Ends c text end → Expects c text end
 short_input c text end le ends =
     let e : nat_lt (most_of c) (length text) ≡ false = grind (arith, nat_tests) in
     subst (λ (long : Bool). ExpectsAs long c text end) (sym e) ends
 
-long_input : (c : Command) (text : List ℕ) → most_of c < length text → Expects c text (Some faults.TooLong)
+long_input : (c : InputTask) (text : List ℕ) → most_of c < length text → Expects c text (Some faults.TooLong)
 long_input c text lt =
     let e : nat_lt (most_of c) (length text) ≡ true = grind (arith, nat_tests) in
     subst (λ (long : Bool). ExpectsAs long c text (Some faults.TooLong)) (sym e) refl
 
 -- an input that was read to its end is the one that was told, and ends as what holds of it says
-ends_as : (c : Command) (old new : Option (List ℕ)) (Holds : List ℕ → Type 0) (text : List ℕ) (end : Option TopFault) → WasRead c old new Holds → old ≡ Some text
+ends_as : (c : InputTask) (old new : Option (List ℕ)) (Holds : List ℕ → Type 0) (text : List ℕ) (end : Option TopFault) → WasRead c old new Holds → old ≡ Some text
     → ((input : List ℕ) → Holds input → Ends c input end) → EndsAsExpected c text end
 ends_as c old new Holds text end read told says =
     let same = all_read old new read.input text told read.drained in
@@ -215,7 +215,7 @@ replay_fits true input report text is = ap script_fault is.ran.spelled
 replay_fits false input report text is = ap script_fault is.spelled
 
 -- where a command makes something of its input, that has no fault
-no_fault : (c : Command) (input : List ℕ) (report : Option RunReport) (text : List ℕ) → Makes c input report text → Ends c input None
+no_fault : (c : InputTask) (input : List ℕ) (report : Option RunReport) (text : List ℕ) → Makes c input report text → Ends c input None
 no_fault (commands.Replay true) input report text makes = ap script_fault makes.ran.spelled
 no_fault (commands.Replay false) input report text makes = replay_fits (is_session input) input report text makes
 no_fault commands.Show input report text makes = ap image_fault makes.0
@@ -225,19 +225,19 @@ no_fault commands.Kv input report text makes = ap script_fault makes.spelled
 
 -- a command ends well
 pub ends_well : (words : List (List ℕ)) (source : Stream) (report : Option RunReport) (out : List ℕ) → Does words source report out
-    → (c : Command) → task_of words ≡ Some (tasks.Read c) → (text : List ℕ) → source.bytes ≡ Some text → EndsAsExpected c text None
+    → (c : InputTask) → task_of words ≡ Some (tasks.Read c) → (text : List ℕ) → source.bytes ≡ Some text → EndsAsExpected c text None
 ends_well words source report out does c asked text told =
     let read = subst (λ (t : Task). IsDone t source report out) (same_Some does.task (tasks.Read c) (sym does.asked ∙ asked)) does.done in
     ends_as c source.bytes source.bytes_after (λ input. Makes c input report out) text None read told (λ input makes. no_fault c input report out makes)
 
-ends_refused : (words : List (List ℕ)) (source : Stream) (fault : TopFault) → IsRefused words source fault → (c : Command) → task_of words ≡ Some (tasks.Read c)
+ends_refused : (words : List (List ℕ)) (source : Stream) (fault : TopFault) → IsRefused words source fault → (c : InputTask) → task_of words ≡ Some (tasks.Read c)
     → (text : List ℕ) → source.bytes ≡ Some text → EndsAsExpected c text (Some fault)
 ends_refused words source fault is c asked text told =
-    subst (λ (d : Command). EndsAsExpected d text (Some fault)) (one_command words is.command c is.asked asked)
+    subst (λ (d : InputTask). EndsAsExpected d text (Some fault)) (one_command words is.command c is.asked asked)
     (ends_as is.command source.bytes source.bytes_after (λ input. Ends is.command input (Some fault)) text (Some fault) is.read told (λ input e. e))
 
 -- what ends before the first write ends as the input says
-pub ends_early : (words : List (List ℕ)) (source : Stream) (fault : TopFault) → Cause words source fault → (c : Command) → task_of words ≡ Some (tasks.Read c)
+pub ends_early : (words : List (List ℕ)) (source : Stream) (fault : TopFault) → Cause words source fault → (c : InputTask) → task_of words ≡ Some (tasks.Read c)
     → (text : List ℕ) → source.bytes ≡ Some text → (Rose source.faults source.faults_after → ⊥) → EndsAsExpected c text (Some fault)
 ends_early words source faults.BadWords cause c asked text told calm = absurd (no_command words c cause asked)
 ends_early words source (faults.Script line kind) cause c asked text told calm = ends_refused words source (faults.Script line kind) cause c asked text told
@@ -247,17 +247,17 @@ ends_early words source faults.SinkFault cause c asked text told calm = absurd c
 ends_early words source faults.TooLong (d, this, long) c asked text told calm =
     let most = front_read source.bytes source.bytes_after long.input text told long.read in
     let past : most_of d < length text = let l = long.long in omega arith in
-    inl (subst (λ (e : Command). Expects e text (Some faults.TooLong)) (one_command words d c this asked) (long_input d text past))
+    inl (subst (λ (e : InputTask). Expects e text (Some faults.TooLong)) (one_command words d c this asked) (long_input d text past))
 ends_early words source faults.NoMemory cause c asked text told calm = inr refl
 ends_early words source faults.NoRoom cause c asked text told calm = ends_refused words source faults.NoRoom cause c asked text told
 ends_early words source (faults.Unsound verdict) cause c asked text told calm = ends_refused words source (faults.Unsound verdict) cause c asked text told
 
 -- an end that the input asks for, where that is a fault
-pub ends_with : (c : Command) (text : List ℕ) (fault : TopFault) (end : Option TopFault) → Expects c text (Some fault) → EndsAsExpected c text end → EndsAs (Some fault) end
+pub ends_with : (c : InputTask) (text : List ℕ) (fault : TopFault) (end : Option TopFault) → Expects c text (Some fault) → EndsAsExpected c text end → EndsAs (Some fault) end
 ends_with c text fault end is (inl ends) = inl (one_end c text end (Some fault) ends is)
 ends_with c text fault end is (inr memory) = inr memory
 
 -- no command ends well where its input has a fault
-pub not_well : (c : Command) (text : List ℕ) (fault : TopFault) → Expects c text (Some fault) → EndsAsExpected c text None → ⊥
+pub not_well : (c : InputTask) (text : List ℕ) (fault : TopFault) → Expects c text (Some fault) → EndsAsExpected c text None → ⊥
 not_well c text fault is (inl well) = none-some fault (one_end c text None (Some fault) well is)
 not_well c text fault is (inr memory) = none-some faults.NoMemory memory

@@ -9,8 +9,8 @@ use Rattle.vol_check.proofs.Firsts.{one_verdict}
 use Rattle.volume_ops.specs.Volume.{VolumeState}
 use Rattle.barrierfs_top.specs.declared.fault.TopFault.{TopFault}
 use Rattle.barrierfs_top.specs.declared.fault.TopFault.TheVariants as faults
-use Rattle.barrierfs_top.specs.declared.command_line.Command.{Command}
-use Rattle.barrierfs_top.specs.declared.command_line.Command.TheVariants as commands
+use Rattle.barrierfs_top.specs.declared.command_line.InputTask.{InputTask}
+use Rattle.barrierfs_top.specs.declared.command_line.InputTask.TheVariants as commands
 use Rattle.barrierfs_top.specs.Tasks.{most_of}
 use Rattle.barrierfs_top.specs.Check.{HasVerdict, IsChecked}
 use Rattle.barrierfs_top.specs.Top.{Ends, ExpectsAs, Expects}
@@ -72,16 +72,16 @@ one_by blocks a b (by_fault f faulty is) (by_fault g faulted also) =
 
 -- ---- all commands
 
-one_of : (c : Command) (text : List ℕ) (a b : Option TopFault) → Ends c text a → Ends c text b → a ≡ b
+one_of : (c : InputTask) (text : List ℕ) (a b : Option TopFault) → Ends c text a → Ends c text b → a ≡ b
 one_of (commands.Replay raw) text a b this that = sym this ∙ that
 one_of commands.Show text a b this that = sym this ∙ that
 one_of (commands.Widen raw) text a b this that = sym this ∙ that
 one_of commands.Kv text a b this that = sym this ∙ that
 one_of commands.Check text a b this that = one_by (whole_blocks text) a b (ends_by (whole_blocks text) a this) (ends_by (whole_blocks text) b that)
 
-one_as : (long : Bool) (c : Command) (text : List ℕ) (a b : Option TopFault) → ExpectsAs long c text a → ExpectsAs long c text b → a ≡ b
+one_as : (long : Bool) (c : InputTask) (text : List ℕ) (a b : Option TopFault) → ExpectsAs long c text a → ExpectsAs long c text b → a ≡ b
 one_as true c text a b this that = sym this ∙ that
 one_as false c text a b this that = one_of c text a b this that
 
-pub one_end : (c : Command) (text : List ℕ) (a b : Option TopFault) → Expects c text a → Expects c text b → a ≡ b
+pub one_end : (c : InputTask) (text : List ℕ) (a b : Option TopFault) → Expects c text a → Expects c text b → a ≡ b
 one_end c text a b this that = one_as (nat_lt (most_of c) (length text)) c text a b this that

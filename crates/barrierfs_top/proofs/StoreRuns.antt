@@ -24,7 +24,7 @@ use Rattle.session_core.specs.Core.{core}
 use Rattle.session_core.specs.Headline.{Headline}
 use Rattle.session_core.specs.Report.{IsCoreReport}
 use Rattle.session_core.specs.declared.report.SessionReport.{SessionReport}
-use Rattle.barrierfs_top.specs.declared.command_line.Command.TheVariants as commands
+use Rattle.barrierfs_top.specs.declared.command_line.InputTask.TheVariants as commands
 use Rattle.barrierfs_top.specs.declared.command_line.Task.{Task}
 use Rattle.barrierfs_top.specs.declared.command_line.Task.TheVariants as tasks
 use Rattle.barrierfs_top.specs.declared.fault.TopFault.{TopFault}

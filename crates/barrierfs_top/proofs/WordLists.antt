@@ -10,8 +10,8 @@ use Rattle.script_words.proofs.SpelledNumbers.{numeral-decimal}
 use Rattle.session_report.specs.declared.bulk.limits.TheConstants.{MOST_GENERATED}
 use Rattle.minix_layout.specs.Words.{first_zone}
 use Rattle.minix_layout.specs.declared.limits.TheConstants.{LEAST_JOURNAL, MOST_JOURNAL, MOST_NUMBERED}
-use Rattle.barrierfs_top.specs.declared.command_line.Command.{Command}
-use Rattle.barrierfs_top.specs.declared.command_line.Command.TheVariants as commands
+use Rattle.barrierfs_top.specs.declared.command_line.InputTask.{InputTask}
+use Rattle.barrierfs_top.specs.declared.command_line.InputTask.TheVariants as commands
 use Rattle.barrierfs_top.specs.declared.command_line.Sizes.{Sizes}
 use Rattle.barrierfs_top.specs.declared.command_line.Task.{Task}
 use Rattle.barrierfs_top.specs.declared.command_line.Task.TheVariants as tasks
@@ -36,7 +36,7 @@ required w name o y false e h = absurd (none-some y h)
 
 -- ---- one word, and two
 
-named : (w : List ℕ) (c : Command) → command_named_by w ≡ Some c → AskFor (w ∷ []) (tasks.Read c)
+named : (w : List ℕ) (c : InputTask) → command_named_by w ≡ Some c → AskFor (w ∷ []) (tasks.Read c)
 named w c h =
     link w (codes "replay") (commands.Replay false) c _ (λ d. AskFor (w ∷ []) (tasks.Read d)) h (λ is. subst (λ v. AskFor (v ∷ []) (tasks.Read (commands.Replay false))) (sym is) AskFor.replay)
     (λ h. link w (codes "show") commands.Show c _ (λ d. AskFor (w ∷ []) (tasks.Read d)) h (λ is. subst (λ v. AskFor (v ∷ []) (tasks.Read commands.Show)) (sym is) AskFor.show)
@@ -45,13 +45,13 @@ named w c h =
     (λ h. link w (codes "kv") commands.Kv c _ (λ d. AskFor (w ∷ []) (tasks.Read d)) h (λ is. subst (λ v. AskFor (v ∷ []) (tasks.Read commands.Kv)) (sym is) AskFor.kv)
     (λ h. absurd (none-some c h))))))
 
-raw_named : (w : List ℕ) (c : Command) → raw_named_by w ≡ Some c → AskFor (w ∷ codes "--raw" ∷ []) (tasks.Read c)
+raw_named : (w : List ℕ) (c : InputTask) → raw_named_by w ≡ Some c → AskFor (w ∷ codes "--raw" ∷ []) (tasks.Read c)
 raw_named w c h =
     link w (codes "replay") (commands.Replay true) c _ (λ d. AskFor (w ∷ codes "--raw" ∷ []) (tasks.Read d)) h (λ is. subst (λ v. AskFor (v ∷ codes "--raw" ∷ []) (tasks.Read (commands.Replay true))) (sym is) AskFor.raw_replay)
     (λ h. link w (codes "widen") (commands.Widen true) c _ (λ d. AskFor (w ∷ codes "--raw" ∷ []) (tasks.Read d)) h (λ is. subst (λ v. AskFor (v ∷ codes "--raw" ∷ []) (tasks.Read (commands.Widen true))) (sym is) AskFor.raw_widen)
     (λ h. absurd (none-some c h)))
 
-two : (w r : List ℕ) (c : Command) → raw_of r (raw_named_by w) ≡ Some c → AskFor (w ∷ r ∷ []) (tasks.Read c)
+two : (w r : List ℕ) (c : InputTask) → raw_of r (raw_named_by w) ≡ Some c → AskFor (w ∷ r ∷ []) (tasks.Read c)
 two w r c h =
     let is = required r (codes "--raw") (raw_named_by w) c (bytes_eq r (codes "--raw")) refl h in
     subst (λ v. AskFor (w ∷ v ∷ []) (tasks.Read c)) (sym is.0) (raw_named w c is.1)

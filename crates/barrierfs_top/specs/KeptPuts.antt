@@ -15,7 +15,7 @@ use Rattle.store_core.specs.Runs.{held_on}
 use Rattle.store_core.specs.Stores.{WasPut, acknowledged_in, held_of, puts_in}
 use Rattle.store_core.specs.SummaryText.{summary_text}
 use Rattle.session_core.specs.Core.{EndState, core}
-use Rattle.barrierfs_top.specs.declared.command_line.Command.TheVariants as commands
+use Rattle.barrierfs_top.specs.declared.command_line.InputTask.TheVariants as commands
 use Rattle.barrierfs_top.specs.declared.fault.TopFault.{TopFault}
 use Rattle.barrierfs_top.specs.Promise.{IsWritten}
 use Rattle.barrierfs_top.specs.Top.{WasRead}

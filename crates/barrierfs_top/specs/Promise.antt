@@ -6,7 +6,7 @@ use Rattle.order_model.specs.Device.{origin_ids}
 use Rattle.stack_core.specs.Headline.{KeepsOrder}
 use Rattle.script_grammar.specs.declared.script.Script.{Script}
 use Rattle.script_grammar.specs.Grammar.{script_of, blocks_of}
-use Rattle.barrierfs_top.specs.declared.command_line.Command.TheVariants as commands
+use Rattle.barrierfs_top.specs.declared.command_line.InputTask.TheVariants as commands
 use Rattle.barrierfs_top.specs.declared.fault.TopFault.{TopFault}
 use Rattle.barrierfs_top.specs.Text.{report_text}
 use Rattle.tree_model.specs.declared.call.Call.{Call}

@@ -7,15 +7,15 @@ use Rattle.script_words.specs.Spelling.{numeral}
 use Rattle.minix_layout.specs.Words.{first_zone}
 use Rattle.session_report.specs.declared.bulk.limits.TheConstants.{MOST_GENERATED}
 use Rattle.barrierfs_top.specs.declared.command_line.TheConstants.{MOST_IMAGE_BYTES}
-use Rattle.barrierfs_top.specs.declared.command_line.Command.{Command}
-use Rattle.barrierfs_top.specs.declared.command_line.Command.TheVariants as commands
+use Rattle.barrierfs_top.specs.declared.command_line.InputTask.{InputTask}
+use Rattle.barrierfs_top.specs.declared.command_line.InputTask.TheVariants as commands
 use Rattle.barrierfs_top.specs.declared.command_line.Sizes.{Sizes}
 use Rattle.barrierfs_top.specs.declared.command_line.Task.{Task}
 use Rattle.barrierfs_top.specs.declared.command_line.Task.TheVariants as tasks
 use Rattle.minix_layout.specs.declared.limits.TheConstants.{LEAST_JOURNAL, MOST_JOURNAL, MOST_NUMBERED}
 
 -- the words for commands
-abbrev pub command_named_by : List ℕ → Option Command
+abbrev pub command_named_by : List ℕ → Option InputTask
 command_named_by w =
     if bytes_eq w (codes "replay") then Some (commands.Replay false)
     else if bytes_eq w (codes "show") then Some commands.Show
@@ -25,17 +25,17 @@ command_named_by w =
     else None
 
 -- a command that writes an image in place of a text, where `--raw` stands behind its word
-abbrev pub raw_named_by : List ℕ → Option Command
+abbrev pub raw_named_by : List ℕ → Option InputTask
 raw_named_by w =
     if bytes_eq w (codes "replay") then Some (commands.Replay true)
     else if bytes_eq w (codes "widen") then Some (commands.Widen true)
     else None
 
-abbrev pub raw_of : List ℕ → Option Command → Option Command
+abbrev pub raw_of : List ℕ → Option InputTask → Option InputTask
 raw_of w command = if bytes_eq w (codes "--raw") then command else None
 
 -- the most bytes of a script, and of an image
-abbrev pub most_of : Command → ℕ
+abbrev pub most_of : InputTask → ℕ
 most_of (commands.Replay raw) = MOST_SCRIPT_BYTES
 most_of commands.Show = MOST_IMAGE_BYTES
 most_of (commands.Widen raw) = MOST_IMAGE_BYTES

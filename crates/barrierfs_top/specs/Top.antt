@@ -9,12 +9,12 @@ use Rattle.mount_make.specs.declared.fault.ImageFault.{ImageFault}
 use Rattle.minix_layout.specs.declared.limits.TheConstants.{DEFAULT_WIDTH}
 use Rattle.minix_layout.specs.Geometry.{geometry_made}
 use Rattle.mount_make.specs.Made.{made_image}
-use Rattle.barrierfs_top.specs.declared.command_line.Command.{Command}
+use Rattle.barrierfs_top.specs.declared.command_line.InputTask.{InputTask}
 use Rattle.barrierfs_top.specs.declared.command_line.Sizes.{Sizes}
 use Rattle.barrierfs_top.specs.declared.command_line.Task.{Task}
 use Rattle.barrierfs_top.specs.declared.command_line.Task.TheVariants as tasks
 use Rattle.barrierfs_top.specs.Tasks.{most_of, task_of}
-use Rattle.barrierfs_top.specs.declared.command_line.Command.TheVariants as commands
+use Rattle.barrierfs_top.specs.declared.command_line.InputTask.TheVariants as commands
 use Rattle.barrierfs_top.specs.Show.{shown}
 use Rattle.barrierfs_top.specs.Widen.{IsWidened, widen_fault}
 use Rattle.barrierfs_top.specs.Check.{IsChecked}
@@ -61,14 +61,14 @@ abbrev pub stream_of : {X : Type 0} → (X → Option (List ℕ)) → (X → ℕ
 stream_of bytes faults before after = record { bytes = bytes before; bytes_after = bytes after; faults = faults before; faults_after = faults after }
 
 -- a source was read to its end, and its bytes are no more than the command may have
-pub record WasRead (c : Command) (old new : Option (List ℕ)) (Holds : List ℕ → Type 0) : Type 0 where
+pub record WasRead (c : InputTask) (old new : Option (List ℕ)) (Holds : List ℕ → Type 0) : Type 0 where
   pub input : List ℕ
   pub drained : Drained old new input
   pub short : length input ≤ most_of c
   pub holds : Holds input
 
 -- more bytes were read than the command may have
-pub record IsTooLong (c : Command) (old new : Option (List ℕ)) : Type 0 where
+pub record IsTooLong (c : InputTask) (old new : Option (List ℕ)) : Type 0 where
   pub input : List ℕ
   pub long : most_of c < length input
   pub read : Consumes old new input
@@ -102,7 +102,7 @@ IsMade s report bytes = (bytes ≡ concat (made_image (geometry_made s.inodes s.
 
 -- `show`: the text is that of the tree that the image has once its journal was recovered; `widen`: it is that of the widened
 -- image, or the bytes are those of this image; `check`: the image is clean, and the text says so; `kv`: it is that of a store's session
-abbrev pub Makes : Command → List ℕ → Option RunReport → List ℕ → Type 0
+abbrev pub Makes : InputTask → List ℕ → Option RunReport → List ℕ → Type 0
 Makes (commands.Replay raw) input report text = IsReplay raw input report text
 Makes commands.Show input report text = (shown (whole_blocks input) ≡ Ok text) × (report ≡ None)
 Makes (commands.Widen raw) input report text = IsWidened raw (whole_blocks input) text × (report ≡ None)
@@ -125,7 +125,7 @@ image_fault (Ok text) = None
 image_fault (Err (kind, block)) = Some (faults.Image kind block)
 
 -- A command ends so whose input this is: without a fault, or by the one that the input has.
-abbrev pub Ends : Command → List ℕ → Option TopFault → Type 0
+abbrev pub Ends : InputTask → List ℕ → Option TopFault → Type 0
 Ends (commands.Replay raw) input end = fault_as (raw || is_session input) input ≡ end
 Ends commands.Show input end = image_fault (shown (whole_blocks input)) ≡ end
 Ends (commands.Widen raw) input end = widen_fault raw (whole_blocks input) ≡ end
@@ -133,7 +133,7 @@ Ends commands.Check input end = IsChecked (whole_blocks input) end
 Ends commands.Kv input end = script_fault (store_of input) ≡ end
 
 -- this is the fault of the input; want of memory is free
-abbrev pub IsInputFault : Command → List ℕ → TopFault → Type 0
+abbrev pub IsInputFault : InputTask → List ℕ → TopFault → Type 0
 IsInputFault c input (faults.Script line kind) = Ends c input (Some (faults.Script line kind))
 IsInputFault c input (faults.Image kind block) = Ends c input (Some (faults.Image kind block))
 IsInputFault c input faults.NoRoom = Ends c input (Some faults.NoRoom)
@@ -173,7 +173,7 @@ pub record Does (words : List (List ℕ)) (source : Stream) (report : Option Run
 
 -- the words are a command, and this is the fault of the source's bytes
 pub record IsRefused (words : List (List ℕ)) (source : Stream) (fault : TopFault) : Type 0 where
-  pub command : Command
+  pub command : InputTask
   pub asked : task_of words ≡ Some (tasks.Read command)
   pub read : WasRead command source.bytes source.bytes_after (λ input. Ends command input (Some fault))
 
@@ -182,9 +182,9 @@ abbrev pub Cause : List (List ℕ) → Stream → TopFault → Type 0
 Cause words source faults.BadWords = task_of words ≡ None
 Cause words source (faults.Script line kind) = IsRefused words source (faults.Script line kind)
 Cause words source (faults.Image kind block) = IsRefused words source (faults.Image kind block)
-Cause words source faults.SourceFault = (c : Command) × (task_of words ≡ Some (tasks.Read c)) × Rose source.faults source.faults_after
+Cause words source faults.SourceFault = (c : InputTask) × (task_of words ≡ Some (tasks.Read c)) × Rose source.faults source.faults_after
 Cause words source faults.SinkFault = ⊥
-Cause words source faults.TooLong = (c : Command) × (task_of words ≡ Some (tasks.Read c)) × IsTooLong c source.bytes source.bytes_after
+Cause words source faults.TooLong = (c : InputTask) × (task_of words ≡ Some (tasks.Read c)) × IsTooLong c source.bytes source.bytes_after
 Cause words source faults.NoMemory = Unit {0}
 Cause words source faults.NoRoom = IsRefused words source faults.NoRoom
 Cause words source (faults.Unsound verdict) = IsRefused words source (faults.Unsound verdict)
@@ -208,15 +208,15 @@ pub record DidSome (words : List (List ℕ)) (source sink : Stream) (reported : 
 -- ---- how a call ends where the input is told and neither stream fails
 
 -- by its length where it is too long, else by what it is
-abbrev pub ExpectsAs : Bool → Command → List ℕ → Option TopFault → Type 0
+abbrev pub ExpectsAs : Bool → InputTask → List ℕ → Option TopFault → Type 0
 ExpectsAs true c text end = Some faults.TooLong ≡ end
 ExpectsAs false c text end = Ends c text end
 
-abbrev pub Expects : Command → List ℕ → Option TopFault → Type 0
+abbrev pub Expects : InputTask → List ℕ → Option TopFault → Type 0
 Expects c text end = ExpectsAs (nat_lt (most_of c) (length text)) c text end
 
 -- so, or by want of memory
-abbrev pub EndsAsExpected : Command → List ℕ → Option TopFault → Type 0
+abbrev pub EndsAsExpected : InputTask → List ℕ → Option TopFault → Type 0
 EndsAsExpected c text fault = Expects c text fault ⊎ (fault ≡ Some faults.NoMemory)
 
 -- by this fault, or without one, or by want of memory

@@ -4,7 +4,7 @@ use Rattle.std.specs.Fmt.{decimal}
 use Rattle.session_report.specs.declared.bulk.limits.TheConstants.{MOST_GENERATED}
 use Rattle.minix_layout.specs.Words.{first_zone}
 use Rattle.minix_layout.specs.declared.limits.TheConstants.{LEAST_JOURNAL, MOST_JOURNAL, MOST_NUMBERED}
-use Rattle.barrierfs_top.specs.declared.command_line.Command.TheVariants as commands
+use Rattle.barrierfs_top.specs.declared.command_line.InputTask.TheVariants as commands
 use Rattle.barrierfs_top.specs.declared.command_line.Sizes.{Sizes}
 use Rattle.barrierfs_top.specs.declared.command_line.Task.{Task}
 use Rattle.barrierfs_top.specs.declared.command_line.Task.TheVariants as tasks

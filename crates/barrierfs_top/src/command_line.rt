@@ -13,7 +13,7 @@ use std::marker::Model;
 
 /// What the program does with its input.
 #[derive(Clone, Copy, PartialEq, Eq, Debug)]
-pub enum Command {
+pub enum InputTask {
     /// Runs a script and prints its report, or of a volume script writes the image that recovery left.
     Replay { raw: bool },
     /// Prints the tree of an image.
@@ -26,14 +26,14 @@ pub enum Command {
     Kv,
 }
 
-impl Command {
+impl InputTask {
     /// The most bytes that its input may have.
     pub fn most(self) -> u64
         ensures { result ≡ most_of self }
     {
         match self {
-            Command::Replay { .. } | Command::Kv => MOST_SCRIPT_BYTES as u64,
-            Command::Show | Command::Widen { .. } | Command::Check => MOST_IMAGE_BYTES,
+            InputTask::Replay { .. } | InputTask::Kv => MOST_SCRIPT_BYTES as u64,
+            InputTask::Show | InputTask::Widen { .. } | InputTask::Check => MOST_IMAGE_BYTES,
         }
     }
 }
@@ -50,7 +50,7 @@ pub struct Sizes {
 #[derive(Clone, Copy, PartialEq, Eq, Debug)]
 pub enum Task {
     /// Reads an input.
-    Read(Command),
+    Read(InputTask),
     /// Makes an image. Nothing is read.
     Make(Sizes),
     /// Runs the workload that is generated from a number, and prints its summary. Nothing is read.
@@ -114,15 +114,15 @@ impl Words {
     }
 }
 
-fn command_named(word: &str) -> Option<Command>
+fn command_named(word: &str) -> Option<InputTask>
     ensures { result ≡ command_named_by word.now }
 {
     match word {
-        "replay" => Some(Command::Replay { raw: false }),
-        "show" => Some(Command::Show),
-        "widen" => Some(Command::Widen { raw: false }),
-        "check" => Some(Command::Check),
-        "kv" => Some(Command::Kv),
+        "replay" => Some(InputTask::Replay { raw: false }),
+        "show" => Some(InputTask::Show),
+        "widen" => Some(InputTask::Widen { raw: false }),
+        "check" => Some(InputTask::Check),
+        "kv" => Some(InputTask::Kv),
         _ => None,
     }
 }
@@ -150,15 +150,15 @@ fn workload_named(number: &str) -> Option<Task>
 }
 
 // The command whose word has `--raw` behind it.
-fn raw_named(word: &str, raw: &str) -> Option<Command>
+fn raw_named(word: &str, raw: &str) -> Option<InputTask>
     ensures { result ≡ raw_of raw.now (raw_named_by word.now) }
 {
     if raw != "--raw" {
         return None;
     }
     match word {
-        "replay" => Some(Command::Replay { raw: true }),
-        "widen" => Some(Command::Widen { raw: true }),
+        "replay" => Some(InputTask::Replay { raw: true }),
+        "widen" => Some(InputTask::Widen { raw: true }),
         _ => None,
     }
 }

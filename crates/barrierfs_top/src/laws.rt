@@ -2,7 +2,7 @@
 ghost use Rattle.std.specs.Prelude.{◌≡◌, ◌↔◌, ℕ, List, Option, Some, Ok};
 ghost use Rattle.blk_base.specs.Image.{whole_blocks};
 ghost use Rattle.barrierfs_top.specs.declared.run_report.RunReport.{RunReport};
-ghost use Rattle.barrierfs_top.specs.declared.command_line.Command.{Command};
+ghost use Rattle.barrierfs_top.specs.declared.command_line.InputTask.{InputTask};
 ghost use Rattle.barrierfs_top.specs.declared.command_line.Task.{Task};
 ghost use Rattle.barrierfs_top.specs.declared.fault.TopFault.{TopFault};
 ghost use Rattle.barrierfs_top.specs.Tasks.{task_of};
@@ -20,7 +20,7 @@ pub fn raw_images_show_the_printed_tree()
 
 /// A law, which does nothing when it is called: by what an input is, a command ends in one way, want of memory aside.
 pub fn inputs_end_in_one_way()
-    ensures { (c : Command) (input : List ℕ) (a b : Option TopFault) → Expects c input a → Expects c input b → a ≡ b }
+    ensures { (c : InputTask) (input : List ℕ) (a b : Option TopFault) → Expects c input a → Expects c input b → a ≡ b }
 {}
 
 /// A law, which does nothing when it is called: of all lists of words those ask for something that stand in the table, and

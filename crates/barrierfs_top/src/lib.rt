@@ -26,7 +26,7 @@ mod text;
 mod top;
 mod widen;
 
-pub use command_line::{Command, MOST_IMAGE_BYTES, Sizes, Task, Words};
+pub use command_line::{InputTask, MOST_IMAGE_BYTES, Sizes, Task, Words};
 pub use fault::TopFault;
 pub use laws::{inputs_end_in_one_way, raw_images_show_the_printed_tree, words_ask_by_the_table};
 pub use program::{Ended, given_words, run_program, run_words};

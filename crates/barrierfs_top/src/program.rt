@@ -6,7 +6,7 @@ ghost use Rattle.barrierfs_top.specs.Promise.{WentOut, TellsRun};
 ghost use Rattle.barrierfs_top.specs.KeptPuts.{TellsStore};
 ghost use Rattle.barrierfs_top.specs.Tasks.{task_of};
 ghost use Rattle.barrierfs_top.specs.Top.{status_of, stream_of, IsUnread, DidSome, Expects, EndsAs, EndsAsExpected};
-ghost use Rattle.barrierfs_top.specs.declared.command_line.Command.{Command};
+ghost use Rattle.barrierfs_top.specs.declared.command_line.InputTask.{InputTask};
 ghost use Rattle.barrierfs_top.specs.declared.command_line.Sizes.{Sizes};
 ghost use Rattle.barrierfs_top.specs.declared.command_line.Task.{Task};
 ghost use Rattle.barrierfs_top.specs.declared.fault.TopFault.{TopFault};
@@ -56,14 +56,14 @@ pub fn run_words<R: Source, W: Sink>(
     src: &mut R,
     out: &mut W,
 ) -> Ended
-    ensures promise { (bytes : List ℕ) → task_of words.now ≡ Some (Task.Read (Command.Replay false)) → WentOut (W.taken out.old) (W.taken out.new) bytes → TellsRun (R.left src.old) (R.left src.new) result.fault bytes }
-    ensures kept_puts { (bytes : List ℕ) → task_of words.now ≡ Some (Task.Read Command.Kv) → WentOut (W.taken out.old) (W.taken out.new) bytes → TellsStore (R.left src.old) (R.left src.new) result.fault bytes }
+    ensures promise { (bytes : List ℕ) → task_of words.now ≡ Some (Task.Read (InputTask.Replay false)) → WentOut (W.taken out.old) (W.taken out.new) bytes → TellsRun (R.left src.old) (R.left src.new) result.fault bytes }
+    ensures kept_puts { (bytes : List ℕ) → task_of words.now ≡ Some (Task.Read InputTask.Kv) → WentOut (W.taken out.old) (W.taken out.new) bytes → TellsStore (R.left src.old) (R.left src.new) result.fault bytes }
     ensures status { result.status ≡ status_of result.fault }
     ensures did { DidSome words.now (stream_of R.left R.faults src.old src.new) (stream_of W.taken W.faults out.old out.new) result.reported result.fault }
     ensures words { task_of words.now ≡ None → result.fault ≡ Some TopFault.BadWords }
-    ensures unread { ((c : Command) → task_of words.now ≡ Some (Task.Read c) → ⊥) → IsUnread (stream_of R.left R.faults src.old src.new) }
-    ensures complete { (c : Command) → task_of words.now ≡ Some (Task.Read c) → (text : List ℕ) → R.left src.old ≡ Some text → ¬ Rose (R.faults src.old) (R.faults src.new) → ¬ Rose (W.faults out.old) (W.faults out.new) → EndsAsExpected c text result.fault }
-    ensures refused { (c : Command) → task_of words.now ≡ Some (Task.Read c) → (text : List ℕ) → R.left src.old ≡ Some text → ¬ Rose (R.faults src.old) (R.faults src.new) → (fault : TopFault) → Expects c text (Some fault) → EndsAs (Some fault) result.fault }
+    ensures unread { ((c : InputTask) → task_of words.now ≡ Some (Task.Read c) → ⊥) → IsUnread (stream_of R.left R.faults src.old src.new) }
+    ensures complete { (c : InputTask) → task_of words.now ≡ Some (Task.Read c) → (text : List ℕ) → R.left src.old ≡ Some text → ¬ Rose (R.faults src.old) (R.faults src.new) → ¬ Rose (W.faults out.old) (W.faults out.new) → EndsAsExpected c text result.fault }
+    ensures refused { (c : InputTask) → task_of words.now ≡ Some (Task.Read c) → (text : List ℕ) → R.left src.old ≡ Some text → ¬ Rose (R.faults src.old) (R.faults src.new) → (fault : TopFault) → Expects c text (Some fault) → EndsAs (Some fault) result.fault }
     ensures made { (s : Sizes) → task_of words.now ≡ Some (Task.Make s) → ¬ Rose (W.faults out.old) (W.faults out.new) → EndsAs None result.fault }
     ensures generated { (n : ℕ) → task_of words.now ≡ Some (Task.Bulk n) → ¬ Rose (W.faults out.old) (W.faults out.new) → EndsAs None result.fault }
     ensures source_steady { (result.fault ≡ Some TopFault.SourceFault → ⊥) → R.faults src.new ≡ R.faults src.old }

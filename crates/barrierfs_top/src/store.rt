@@ -4,7 +4,7 @@ ghost use Rattle.std.specs.String.{string_bytes};
 ghost use Rattle.script_grammar.specs.declared.limits.TheConstants.{MOST_SCRIPT_BYTES};
 ghost use Rattle.store_core.specs.Runs.{ArePairs};
 ghost use Rattle.store_core.specs.SummaryText.{summary_text};
-ghost use Rattle.barrierfs_top.specs.declared.command_line.Command.{Command};
+ghost use Rattle.barrierfs_top.specs.declared.command_line.InputTask.{InputTask};
 ghost use Rattle.barrierfs_top.specs.Stores.{IsStoreRun};
 ghost use Rattle.barrierfs_top.specs.Text.{output_bytes};
 ghost use Rattle.barrierfs_top.specs.Top.{IsInputFault};
@@ -32,7 +32,7 @@ fn text_of(alloc: Global, summary: &StoreSummary) -> Result<String, NoMemory>
 pub fn run_store_text(alloc: Global, bytes: &[u8]) -> Result<Printed, TopFault>
     requires { length bytes.now ≤ MOST_SCRIPT_BYTES }
     ensures ok { IfOk result (λ p. IsStoreRun bytes.now p.report (output_bytes p.output)) }
-    ensures err { IfErr result (IsInputFault Command.Kv bytes.now) }
+    ensures err { IfErr result (IsInputFault InputTask.Kv bytes.now) }
 {
     let script = match read_store(alloc, bytes) {
         Ok(script) => script,

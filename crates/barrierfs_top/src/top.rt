@@ -7,7 +7,7 @@ ghost use Rattle.barrierfs_top.specs.Top.{status_of, stream_of, IsReplay, IsBloc
 ghost use Rattle.barrierfs_top.specs.Promise.{WentOut, TellsRun};
 ghost use Rattle.barrierfs_top.specs.KeptPuts.{TellsStore};
 ghost use Rattle.std.specs.String.{string_bytes};
-ghost use Rattle.barrierfs_top.specs.declared.command_line.Command.{Command};
+ghost use Rattle.barrierfs_top.specs.declared.command_line.InputTask.{InputTask};
 ghost use Rattle.barrierfs_top.specs.declared.command_line.Sizes.{Sizes};
 ghost use Rattle.barrierfs_top.specs.declared.command_line.Task.{Task};
 ghost use Rattle.barrierfs_top.specs.Show.{shown, IsMountedFault};
@@ -17,7 +17,7 @@ ghost use Rattle.barrierfs_top.specs.Bulk.{IsWorkload};
 
 use crate::bulk::run_workload;
 use crate::check::check_image;
-use crate::command_line::{Command, Sizes, Task, Words};
+use crate::command_line::{InputTask, Sizes, Task, Words};
 use crate::fault::TopFault;
 use crate::output::Output;
 use crate::run_report::RunReport;
@@ -105,7 +105,7 @@ fn run_blocks_text(alloc: Global, bytes: &[u8]) -> Result<Printed, TopFault>
 fn run_script(alloc: Global, bytes: &[u8], raw: bool) -> Result<Printed, TopFault>
     requires { length bytes.now ≤ MOST_SCRIPT_BYTES }
     ensures ok { IfOk result (λ p. IsReplay raw bytes.now p.report (output_bytes p.output)) }
-    ensures err { IfErr result (IsInputFault (Command.Replay raw) bytes.now) }
+    ensures err { IfErr result (IsInputFault (InputTask.Replay raw) bytes.now) }
 {
     if raw {
         return run_session_image(alloc, bytes);
@@ -184,12 +184,12 @@ fn make(alloc: Global, sizes: Sizes) -> Result<Printed, TopFault>
 
 // Reads a script and runs it.
 fn read_and_run<R: Source>(alloc: Global, src: &mut R, raw: bool) -> Result<Printed, TopFault>
-    ensures ok { (words : List (List ℕ)) → task_of words ≡ Some (Task.Read (Command.Replay raw)) →
+    ensures ok { (words : List (List ℕ)) → task_of words ≡ Some (Task.Read (InputTask.Replay raw)) →
         IfOk result (λ p. Does words (stream_of R.left R.faults src.old src.new) p.report (output_bytes p.output)) }
-    ensures err { (words : List (List ℕ)) → task_of words ≡ Some (Task.Read (Command.Replay raw)) → IfErr result (Cause words (stream_of R.left R.faults src.old src.new)) }
+    ensures err { (words : List (List ℕ)) → task_of words ≡ Some (Task.Read (InputTask.Replay raw)) → IfErr result (Cause words (stream_of R.left R.faults src.old src.new)) }
     ensures steady { (IsErrOf result TopFault.SourceFault → ⊥) → R.faults src.new ≡ R.faults src.old }
 {
-    let command = Command::Replay { raw };
+    let command = InputTask::Replay { raw };
     match read_all(alloc, src, command.most()) {
         Ok(bytes) => run_script(alloc, &bytes, raw),
         Err(end) => Err(read_fault(end)),
@@ -198,12 +198,12 @@ fn read_and_run<R: Source>(alloc: Global, src: &mut R, raw: bool) -> Result<Prin
 
 // Reads an image block by block, and makes the text of its tree.
 fn read_and_show<R: Source>(alloc: Global, src: &mut R) -> Result<Printed, TopFault>
-    ensures ok { (words : List (List ℕ)) → task_of words ≡ Some (Task.Read Command.Show) →
+    ensures ok { (words : List (List ℕ)) → task_of words ≡ Some (Task.Read InputTask.Show) →
         IfOk result (λ p. Does words (stream_of R.left R.faults src.old src.new) p.report (output_bytes p.output)) }
-    ensures err { (words : List (List ℕ)) → task_of words ≡ Some (Task.Read Command.Show) → IfErr result (Cause words (stream_of R.left R.faults src.old src.new)) }
+    ensures err { (words : List (List ℕ)) → task_of words ≡ Some (Task.Read InputTask.Show) → IfErr result (Cause words (stream_of R.left R.faults src.old src.new)) }
     ensures steady { (IsErrOf result TopFault.SourceFault → ⊥) → R.faults src.new ≡ R.faults src.old }
 {
-    match read_image(alloc, src, Command::Show.most()) {
+    match read_image(alloc, src, InputTask::Show.most()) {
         Ok(image) => show(alloc, image),
         Err(end) => Err(read_fault(end)),
     }
@@ -211,12 +211,12 @@ fn read_and_show<R: Source>(alloc: Global, src: &mut R) -> Result<Printed, TopFa
 
 // Reads an image block by block, and widens it.
 fn read_and_widen<R: Source>(alloc: Global, src: &mut R, raw: bool) -> Result<Printed, TopFault>
-    ensures ok { (words : List (List ℕ)) → task_of words ≡ Some (Task.Read (Command.Widen raw)) →
+    ensures ok { (words : List (List ℕ)) → task_of words ≡ Some (Task.Read (InputTask.Widen raw)) →
         IfOk result (λ p. Does words (stream_of R.left R.faults src.old src.new) p.report (output_bytes p.output)) }
-    ensures err { (words : List (List ℕ)) → task_of words ≡ Some (Task.Read (Command.Widen raw)) → IfErr result (Cause words (stream_of R.left R.faults src.old src.new)) }
+    ensures err { (words : List (List ℕ)) → task_of words ≡ Some (Task.Read (InputTask.Widen raw)) → IfErr result (Cause words (stream_of R.left R.faults src.old src.new)) }
     ensures steady { (IsErrOf result TopFault.SourceFault → ⊥) → R.faults src.new ≡ R.faults src.old }
 {
-    let command = Command::Widen { raw };
+    let command = InputTask::Widen { raw };
     match read_image(alloc, src, command.most()) {
         Ok(image) => widen(alloc, image, raw),
         Err(end) => Err(read_fault(end)),
@@ -225,12 +225,12 @@ fn read_and_widen<R: Source>(alloc: Global, src: &mut R, raw: bool) -> Result<Pr
 
 // Reads an image block by block, and checks it.
 fn read_and_check<R: Source>(alloc: Global, src: &mut R) -> Result<Printed, TopFault>
-    ensures ok { (words : List (List ℕ)) → task_of words ≡ Some (Task.Read Command.Check) →
+    ensures ok { (words : List (List ℕ)) → task_of words ≡ Some (Task.Read InputTask.Check) →
         IfOk result (λ p. Does words (stream_of R.left R.faults src.old src.new) p.report (output_bytes p.output)) }
-    ensures err { (words : List (List ℕ)) → task_of words ≡ Some (Task.Read Command.Check) → IfErr result (Cause words (stream_of R.left R.faults src.old src.new)) }
+    ensures err { (words : List (List ℕ)) → task_of words ≡ Some (Task.Read InputTask.Check) → IfErr result (Cause words (stream_of R.left R.faults src.old src.new)) }
     ensures steady { (IsErrOf result TopFault.SourceFault → ⊥) → R.faults src.new ≡ R.faults src.old }
 {
-    match read_image(alloc, src, Command::Check.most()) {
+    match read_image(alloc, src, InputTask::Check.most()) {
         Ok(image) => check(alloc, image),
         Err(end) => Err(read_fault(end)),
     }
@@ -238,12 +238,12 @@ fn read_and_check<R: Source>(alloc: Global, src: &mut R) -> Result<Printed, TopF
 
 // Reads a store's script and runs it.
 fn read_and_keep<R: Source>(alloc: Global, src: &mut R) -> Result<Printed, TopFault>
-    ensures ok { (words : List (List ℕ)) → task_of words ≡ Some (Task.Read Command.Kv) →
+    ensures ok { (words : List (List ℕ)) → task_of words ≡ Some (Task.Read InputTask.Kv) →
         IfOk result (λ p. Does words (stream_of R.left R.faults src.old src.new) p.report (output_bytes p.output)) }
-    ensures err { (words : List (List ℕ)) → task_of words ≡ Some (Task.Read Command.Kv) → IfErr result (Cause words (stream_of R.left R.faults src.old src.new)) }
+    ensures err { (words : List (List ℕ)) → task_of words ≡ Some (Task.Read InputTask.Kv) → IfErr result (Cause words (stream_of R.left R.faults src.old src.new)) }
     ensures steady { (IsErrOf result TopFault.SourceFault → ⊥) → R.faults src.new ≡ R.faults src.old }
 {
-    match read_all(alloc, src, Command::Kv.most()) {
+    match read_all(alloc, src, InputTask::Kv.most()) {
         Ok(bytes) => run_store_text(alloc, &bytes),
         Err(end) => Err(read_fault(end)),
     }
@@ -256,18 +256,18 @@ fn prepare<R: Source>(alloc: Global, words: &Words, src: &mut R) -> Result<Print
     ensures words { task_of words.now ≡ None → IsErrOf result TopFault.BadWords }
     ensures made { (s : Sizes) → task_of words.now ≡ Some (Task.Make s) → IfErr result (λ fault. fault ≡ TopFault.NoMemory) }
     ensures generated { (n : ℕ) → task_of words.now ≡ Some (Task.Bulk n) → IfErr result (λ fault. fault ≡ TopFault.NoMemory) }
-    ensures unread { ((c : Command) → task_of words.now ≡ Some (Task.Read c) → ⊥) → IsUnread (stream_of R.left R.faults src.old src.new) }
+    ensures unread { ((c : InputTask) → task_of words.now ≡ Some (Task.Read c) → ⊥) → IsUnread (stream_of R.left R.faults src.old src.new) }
     ensures steady { (IsErrOf result TopFault.SourceFault → ⊥) → R.faults src.new ≡ R.faults src.old }
 {
     let Some(task) = words.task() else {
         return Err(TopFault::BadWords);
     };
     match task {
-        Task::Read(Command::Replay { raw }) => read_and_run(alloc, src, raw),
-        Task::Read(Command::Show) => read_and_show(alloc, src),
-        Task::Read(Command::Widen { raw }) => read_and_widen(alloc, src, raw),
-        Task::Read(Command::Check) => read_and_check(alloc, src),
-        Task::Read(Command::Kv) => read_and_keep(alloc, src),
+        Task::Read(InputTask::Replay { raw }) => read_and_run(alloc, src, raw),
+        Task::Read(InputTask::Show) => read_and_show(alloc, src),
+        Task::Read(InputTask::Widen { raw }) => read_and_widen(alloc, src, raw),
+        Task::Read(InputTask::Check) => read_and_check(alloc, src),
+        Task::Read(InputTask::Kv) => read_and_keep(alloc, src),
         Task::Make(sizes) => make(alloc, sizes),
         Task::Bulk(number) => run_workload(alloc, number),
     }
@@ -286,14 +286,14 @@ fn prepare<R: Source>(alloc: Global, words: &Words, src: &mut R) -> Result<Print
 /// The statuses are tested in the order 2, 5 and 7, 3 or 4, 9 or 10, 6. Status 8, want of memory, may come at any place
 /// before the first write.
 pub fn alone<R: Source, W: Sink>(alloc: Global, words: &Words, src: &mut R, out: &mut W) -> Outcome
-    ensures promise { (bytes : List ℕ) → task_of words.now ≡ Some (Task.Read (Command.Replay false)) → WentOut (W.taken out.old) (W.taken out.new) bytes → TellsRun (R.left src.old) (R.left src.new) result.fault bytes }
-    ensures kept_puts { (bytes : List ℕ) → task_of words.now ≡ Some (Task.Read Command.Kv) → WentOut (W.taken out.old) (W.taken out.new) bytes → TellsStore (R.left src.old) (R.left src.new) result.fault bytes }
+    ensures promise { (bytes : List ℕ) → task_of words.now ≡ Some (Task.Read (InputTask.Replay false)) → WentOut (W.taken out.old) (W.taken out.new) bytes → TellsRun (R.left src.old) (R.left src.new) result.fault bytes }
+    ensures kept_puts { (bytes : List ℕ) → task_of words.now ≡ Some (Task.Read InputTask.Kv) → WentOut (W.taken out.old) (W.taken out.new) bytes → TellsStore (R.left src.old) (R.left src.new) result.fault bytes }
     ensures status { result.status ≡ status_of result.fault }
     ensures did { Did words.now (stream_of R.left R.faults src.old src.new) (stream_of W.taken W.faults out.old out.new) result.report result.fault }
     ensures words { task_of words.now ≡ None → result.fault ≡ Some TopFault.BadWords }
-    ensures unread { ((c : Command) → task_of words.now ≡ Some (Task.Read c) → ⊥) → IsUnread (stream_of R.left R.faults src.old src.new) }
-    ensures complete { (c : Command) → task_of words.now ≡ Some (Task.Read c) → (text : List ℕ) → R.left src.old ≡ Some text → ¬ Rose (R.faults src.old) (R.faults src.new) → ¬ Rose (W.faults out.old) (W.faults out.new) → EndsAsExpected c text result.fault }
-    ensures refused { (c : Command) → task_of words.now ≡ Some (Task.Read c) → (text : List ℕ) → R.left src.old ≡ Some text → ¬ Rose (R.faults src.old) (R.faults src.new) → (fault : TopFault) → Expects c text (Some fault) → EndsAs (Some fault) result.fault }
+    ensures unread { ((c : InputTask) → task_of words.now ≡ Some (Task.Read c) → ⊥) → IsUnread (stream_of R.left R.faults src.old src.new) }
+    ensures complete { (c : InputTask) → task_of words.now ≡ Some (Task.Read c) → (text : List ℕ) → R.left src.old ≡ Some text → ¬ Rose (R.faults src.old) (R.faults src.new) → ¬ Rose (W.faults out.old) (W.faults out.new) → EndsAsExpected c text result.fault }
+    ensures refused { (c : InputTask) → task_of words.now ≡ Some (Task.Read c) → (text : List ℕ) → R.left src.old ≡ Some text → ¬ Rose (R.faults src.old) (R.faults src.new) → (fault : TopFault) → Expects c text (Some fault) → EndsAs (Some fault) result.fault }
     ensures made { (s : Sizes) → task_of words.now ≡ Some (Task.Make s) → ¬ Rose (W.faults out.old) (W.faults out.new) → EndsAs None result.fault }
     ensures generated { (n : ℕ) → task_of words.now ≡ Some (Task.Bulk n) → ¬ Rose (W.faults out.old) (W.faults out.new) → EndsAs None result.fault }
     ensures source_steady { (result.fault ≡ Some TopFault.SourceFault → ⊥) → R.faults src.new ≡ R.faults src.old }

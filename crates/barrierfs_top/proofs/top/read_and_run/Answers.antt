@@ -1,7 +1,7 @@
 use Rattle.std.specs.Prelude.{◌≤◌, length}
 use Rattle.std.proofs.Common.{arith}
 use Rattle.blk_base.specs.Streams.{Drained}
-use Rattle.barrierfs_top.specs.declared.command_line.Command.TheVariants as commands
+use Rattle.barrierfs_top.specs.declared.command_line.InputTask.TheVariants as commands
 use Rattle.barrierfs_top.specs.Tasks.{most_of}
 use Rattle.barrierfs_top.specs.Top.{stream_of}
 use Rattle.barrierfs_top.proofs.Ends.{does_if, cause_if}
