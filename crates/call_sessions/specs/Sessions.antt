@@ -39,6 +39,7 @@ WriteBytes programs = (program : List Call) (c : Call) → In program programs �
 abbrev pub plain_call : ByteCall → Call
 plain_call c = c.call
 
+-- the host over calls with a proof, seen as one over calls alone
 abbrev pub plain_host : Host VolumeNow ByteCall Reply → Host VolumeNow Call Reply
 plain_host h = host_as plain_call h
 
@@ -58,6 +59,7 @@ call_over s = record {
 abbrev pub opened_with : Opening → VolumeNow → LogRing → ℕ → List (List Call) → Host VolumeNow Call Reply
 opened_with s v ring limit programs = opened (call_over s).model (call_over s).setup v ring s.geometry.zones limit programs
 
+-- the host after these steps, from where it was opened on this volume
 abbrev pub host_behind : Opening → VolumeNow → LogRing → ℕ → List (List Call) → List Event → Host VolumeNow Call Reply
 host_behind s v ring limit programs events = steps (call_over s) (opened_with s v ring limit programs) events
 

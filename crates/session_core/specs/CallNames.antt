@@ -3,6 +3,7 @@ use Rattle.std.specs.Prelude.{Bool, true, false}
 use Rattle.tree_model.specs.declared.call.Call.{Call}
 use Rattle.tree_model.specs.declared.call.Call.TheVariants.{Fsync, Fdatasync, Fbarrier, Fdatabarrier, Sync}
 
+-- the five calls that promise something of what was written before
 abbrev pub is_barrier_or_sync : Call → Bool
 is_barrier_or_sync (Fsync path) = true
 is_barrier_or_sync (Fdatasync path) = true

@@ -42,6 +42,7 @@ geometry_of s = geometry_made s.inodes s.zones s.width
 abbrev pub opening_of : SessionScript → Opening
 opening_of s = made_opening (geometry_of s) s.journal s.wide (quota (new_journal s.journal s.wide))
 
+-- what the script's session begins on: the volume that is made, the empty ring and the threads' programs
 abbrev pub start_of : SessionScript → Start
 start_of s = made_start (geometry_of s) s.journal s.header.limit s.header.queue s.programs
 
@@ -70,6 +71,7 @@ pub record EndState : Type 0 where
   pub sched : SchedSeen
   pub dev : Seen
 
+-- what is left of a session where it stops: the host, and what is seen of scheduler and device
 abbrev pub ended : {K S : Type 0} → SchedSteps K → Machine S → SessionState K S → EndState
 ended k m r = record { host = r.host; sched = k.seen r.sched; dev = m.seen r.dev }
 

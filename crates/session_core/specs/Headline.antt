@@ -47,9 +47,11 @@ medium_of r = record { image = r.cut.image.items; origins = r.cut.origins }
 abbrev pub told_by : SessionScript → EndState → History WalkEnd
 told_by s end = history_of (geometry_of s) s.journal s.wide end.host
 
+-- what the host of such an end submitted, with the notes of each request
 abbrev pub submitted_in : SessionScript → EndState → Session
 submitted_in s end = submitted_by (geometry_of s) s.journal s.wide [] end.host
 
+-- how many transactions have their commit block on this medium
 abbrev pub kept_in : SessionScript → EndState → Medium → ℕ
 kept_in s end m = kept_count (geometry_of s) s.journal s.wide end.host m
 
@@ -89,6 +91,7 @@ pub data ShowsLater (s : SessionScript) (end : EndState) (found : ℕ) (tree : T
 
 -- ---- the same on the device that a script opens
 
+-- the same four of the script's own end, that of its run on one thread
 abbrev pub told_of : SessionScript → History WalkEnd
 told_of s = told_by s (core s)
 

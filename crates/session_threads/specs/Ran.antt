@@ -58,11 +58,13 @@ RanAs s (Some segments) effects end = RanWith flash_machine s (flash_for s segme
 
 -- ---- what a power cut left of it
 
+-- the session ran in threads from these two parts, and this is what the script's end left
 pub record LeftBy {K S : Type 0} (k : SchedSteps K) (m : Machine S) (s : SessionScript) (sched_first : K) (dev_first : S) (r : ThreadsEnd) : Type 0 where
   pub end : EndState
   pub ran : RanInThreads k m s sched_first dev_first r.effects end
   pub is : IsEndOfScript s end r.end
 
+-- the same, with the scheduler that the script says
 pub record LeftWith {S : Type 0} (m : Machine S) (s : SessionScript) (dev : S) (on_elevator : Bool) (r : ThreadsEnd) : Type 0 where
   pub end : EndState
   pub ran : RanWith m s dev on_elevator r.effects end

@@ -1,18 +1,12 @@
--- What a log holds are keys with values, which are of ASCII.
-use Rattle.std.specs.Prelude.{◌≡◌, ℕ, ◌+◌, ◌<◌, ◌&&◌, ◌||◌, ◌==◌, true, not, nat_le, List, [], ◌∷◌, length, Option, Some, None}
-use Rattle.std.proofs.Common.{refl, arith}
+-- What a log holds are keys with values.
+use Rattle.std.specs.Prelude.{◌≡◌, ℕ, ◌+◌, true, List, [], ◌∷◌, Option, Some, None}
+use Rattle.std.proofs.Common.{refl}
 use Rattle.std.specs.Ordering.{match_ordering}
 use Rattle.std.specs.declared.cmp.Ordering.{Ordering}
 use Rattle.std.specs.declared.cmp.Ordering.TheVariants.{Less, Equal, Greater}
-use Rattle.std.specs.List.{All, list_all}
-use Rattle.std.proofs.lemmas.Bool.{and_parts}
-use Rattle.std.proofs.lemmas.Bool.Decides.{nat_tests}
-use Rattle.std.proofs.lemmas.List.Sums.{AllPass-from_list_all}
 use Rattle.tree_model.specs.Maps.{name_cmp, put_name}
-use Rattle.tree_model.specs.Paths.{is_name_byte}
-use Rattle.session_report.specs.text.Lines.{is_ascii}
 use Rattle.wal_store.specs.declared.puts.Put.{Put}
-use Rattle.wal_store.specs.Puts.{IsPut, is_text, is_key, is_value}
+use Rattle.wal_store.specs.Puts.{IsPut, is_key, is_value}
 use Rattle.wal_store.specs.Log.{Pairs, put_numbered, with_first, puts_from, held_puts, pairs_after, pairs_of}
 use Rattle.wal_store.proofs.HeldPuts.{numbered-decoded}
 use Rattle.wal_store.proofs.Spelled.{decode-read}
@@ -53,20 +47,3 @@ left pairs (p ∷ ps) puts is = left (put_name pairs p.key p.value) ps puts.1 (p
 
 pub pairs-held : (blocks : List (List ℕ)) → ArePairs (pairs_of (held_puts blocks))
 pairs-held blocks = left [] (held_puts blocks) (are-read 0 blocks) tt
-
--- ---- of ASCII
-
-low : (b : ℕ) → is_name_byte b ≡ true → b < 128
-low b is = grind (arith, nat_tests)
-
-ascii : (most : ℕ) (t : List ℕ) → is_text most t ≡ true → All is_ascii t
-ascii most t is =
-    let p = and_parts (not (length t == 0)) (nat_le (length t) most && list_all is_name_byte t) is in
-    let q = and_parts (nat_le (length t) most) (list_all is_name_byte t) p.1 in
-    λ k d lt. low _ (AllPass-from_list_all is_name_byte t q.1 k d lt)
-
-pub key-ascii : (t : List ℕ) → is_key t ≡ true → All is_ascii t
-key-ascii t is = ascii 32 t is
-
-pub value-ascii : (t : List ℕ) → is_value t ≡ true → All is_ascii t
-value-ascii t is = ascii 200 t is

@@ -42,6 +42,7 @@ pub record IsStoreScript (path : List ℕ) (before : List Call) (ops : List LogS
 abbrev pub NoneFull : EndState → Type 0
 NoneFull end = (e t : ℕ) (c : Call) → EndsAt end.host.history e t c SessionFull → ⊥
 
+-- put i, of this body, is answered with this reply at entry q of the history
 abbrev pub PutEnds : List ℕ → EndState → ℕ → ℕ → ℕ → List ℕ → Reply → Type 0
 PutEnds path end q t i body reply = EndsAt end.host.history q t (Bytes path (1024 * i) body) (Answered reply)
 

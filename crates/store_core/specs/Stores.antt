@@ -34,10 +34,12 @@ puts_in (ops.Flush ∷ xs) = puts_in xs
 
 -- ---- acknowledged puts
 
+-- the call that writes a put to the log
 abbrev pub is_put : Call → Bool
 is_put (calls.Bytes path off bytes) = true
 is_put other = false
 
+-- the call that makes the puts before it durable
 abbrev pub is_flush : Call → Bool
 is_flush (calls.Fdatasync path) = true
 is_flush other = false
@@ -64,6 +66,7 @@ abbrev pub acknowledged_from : ℕ → ℕ → List (Entry Call Reply) → ℕ
 acknowledged_from puts last [] = last
 acknowledged_from puts last (e ∷ es) = acknowledged_from (puts + one_if (is_put_end e)) (if is_flushed e then puts else last) es
 
+-- how many puts the store was told are durable, when the session ended
 abbrev pub acknowledged_in : EndState → ℕ
 acknowledged_in end = acknowledged_from 0 0 end.host.history
 

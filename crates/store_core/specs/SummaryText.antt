@@ -4,6 +4,7 @@ use Rattle.session_report.specs.text.Lines.{count_line}
 use Rattle.wal_store.specs.Log.{Pairs}
 use Rattle.store_core.specs.declared.report.StoreSummary.{StoreSummary}
 
+-- a line for each key: the key, and the value that it has
 abbrev pub pair_line : List ℕ → List ℕ → List ℕ
 pair_line key value = key ++ codes " " ++ value ++ codes "\n"
 

@@ -79,17 +79,6 @@ directory_is (Some (nodes.File f)) = refl
 directory_is (Some (nodes.Other mode)) = refl
 directory_is None = refl
 
-pub wanted_directory : (tree : List (ℕ × Node)) (birth : ℕ) (o : Option Node) (d : Directory) (links : ℕ) → directory_at o ≡ Some d → links ≡ directory_links tree d →
-    (node : Node) → o ≡ Some node → IsWanted (links_in tree birth node) links
-wanted_directory tree birth o d links is told node at = by node (sym (ap directory_at at) ∙ is)
-  where
-    by : (node : Node) → directory_at (Some node) ≡ Some d → IsWanted (links_in tree birth node) links
-    by (nodes.Directory e) here =
-        let same : links ≡ directory_links tree e = told ∙ ap (directory_links tree) (sym (same_Some e d here)) in
-        λ field fits. ((λ f. f ∙ same), (λ f. f ∙ sym same))
-    by (nodes.File f) here = absurd (none-some d here)
-    by (nodes.Other mode) here = absurd (none-some d here)
-
 same_small : (links n field : ℕ) → IsCount links n → field < 256 → (field ≡ links) ↔ (field ≡ n)
 same_small links n field is fits = ((λ e. omega (arith, e, is, fits)), (λ e. omega (arith, e, is, fits)))
 

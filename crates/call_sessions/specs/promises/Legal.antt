@@ -20,6 +20,7 @@ reply_in Down = replies.Down
 reply_in (ReadOnly id) = replies.ReadOnly id
 reply_in SessionFull = replies.SessionFull
 
+-- an entry of the history as the event of a legal history: a call begins, or ends with a reply
 abbrev pub event_of : Entry Call Reply → Event
 event_of e = elim e.what as (λ _. Event) [ Begins ↦ Begin e.thread e.call | Ends x ↦ End e.thread e.call (reply_in x) ]
 

@@ -16,6 +16,7 @@ pub use Rattle.session_core.specs.Core.{IsBehind}
 abbrev pub session_on : {K S : Type 0} → SessionScript → SchedSteps K → Machine S → K → S → SessionState K S
 session_on s k m sched dev = core_session (opening_of s) k m (start_of s) sched dev s.events
 
+-- the values that the run leaves are those of this end
 pub record EndsIn (end : EndState) (r : SessionEnd) : Type 0 where
   pub host : r.host.host ≡ end.host
   pub sched : IsSchedRecord end.sched r.sched
@@ -23,6 +24,7 @@ pub record EndsIn (end : EndState) (r : SessionEnd) : Type 0 where
   pub origins : r.cut.origins ≡ origin_ids end.dev.took end.dev.origins
   pub trace : IsTraceOf end.dev r.cut.trace
 
+-- what the power cut left keeps the order of the requests, and what a flush completed
 abbrev pub KeepsTheOrder : SessionScript → EndState → SessionEnd → Type 0
 KeepsTheOrder s end r = KeepsOrder (opening_of s).image end.host.journal.flush.requests r.cut.image r.cut.origins (r.cut.trace.sent.items ++ end.dev.waiting)
 

@@ -6,6 +6,7 @@ use Rattle.call_sessions.specs.Sessions.{made_opening}
 use Rattle.session_core.specs.run.machine.Machine.{Start}
 use Rattle.session_core.specs.run.machine.MadeStart.{made_start}
 
+-- a session of no size, for a value that no session stands behind
 pub no_opening : Opening
 no_opening = made_opening (geometry_made 0 0 0) 0 false 0
 

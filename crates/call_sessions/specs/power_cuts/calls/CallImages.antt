@@ -61,6 +61,7 @@ submitted_by g journal wide closed h = session (call_over (opening_on g journal 
 abbrev pub kept_count : Geometry → ℕ → Bool → Host VolumeNow Call Reply → Medium → ℕ
 kept_count g journal wide h m = found (submitted_by g journal wide [] h) m
 
+-- the tree after the transactions whose commit block this medium keeps
 abbrev pub kept_tree : Geometry → ℕ → Bool → Host VolumeNow Call Reply → Medium → Tree
 kept_tree g journal wide h m = tree_behind (opening_on g journal wide) h (kept_count g journal wide h m)
 

@@ -60,6 +60,7 @@ log_on s m = model.log_of (format s.wide) (ring_of (new_journal s.journal s.wide
 abbrev pub kept_transactions : Start → List Event → Medium → ℕ
 kept_transactions s events m = kept_number (over (made_opening s.geometry s.journal s.wide s.quota)) (Stands (made_opening s.geometry s.journal s.wide s.quota)) (host_of s events) [] m
 
+-- the tree after the transactions whose commit block this medium keeps
 abbrev pub kept_tree : Start → List Event → Medium → Tree
 kept_tree s events m = tree_after_transactions (made_opening s.geometry s.journal s.wide s.quota) (host_of s events) (kept_transactions s events m)
 

@@ -23,6 +23,7 @@ use Rattle.call_sessions.specs.declared.power_cuts.recovery.attempts.Attempt.{At
 
 -- ---- the device steps that a line asks for
 
+-- the choices that a word of a `recover` line stands for
 abbrev pub steps_of : Steer → List Choice
 steps_of (steers.Transfer pick) = choices.Transfer pick ∷ []
 steps_of (steers.Persist pick) = choices.Persist pick ∷ []

@@ -3,6 +3,7 @@ use Rattle.std.specs.Prelude.{◌≡◌}
 use Rattle.session_core.specs.declared.run.queues.SessionQueues.TheInside.{Inside}
 use Rattle.session_core.specs.run.code.Queues.{QueuesNow}
 
+-- the fields of a session's queues as plain values
 abbrev pub queues_of : Inside → QueuesNow
 queues_of s = record {
   capacity = s.submission.capacity;

@@ -6,6 +6,7 @@ use Rattle.order_model.specs.declared.request.Request.{Request}
 use Rattle.stack_core.specs.BlockLayer.{QueuesState}
 use Rattle.session_core.specs.run.machine.Machine.{is_full}
 
+-- the queues between host, scheduler and device
 pub record QueuesNow : Type 0 where
   -- the most items that each queue holds
   pub capacity : ℕ

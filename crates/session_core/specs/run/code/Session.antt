@@ -12,6 +12,7 @@ use Rattle.session_core.specs.run.code.Queues.{QueuesNow, layer_queues}
 use Rattle.session_core.specs.run.Beginning.{Beginning}
 use Rattle.session_core.specs.run.code.Reached.{IsReached}
 
+-- host, queues, scheduler and device as a state of the machine
 abbrev pub session_of : {K S : Type 0} → HostNow → QueuesNow → K → S → SessionState K S
 session_of h q sched dev = record {
   host = h.host;

@@ -47,6 +47,7 @@ pub record WithinCapacity (q : QueuesState) (completions : List Completion) : Ty
   pub dispatched : length q.dispatched ≤ q.capacity
   pub completions_are : length completions ≤ q.capacity
 
+-- The parts of a session fit: each has taken a prefix of what the one before it sent, and no queue holds more than it may.
 pub record SessionFits {K S : Type 0} (k : SchedSteps K) (m : Machine S) (r : SessionState K S) : Type 0 where
   pub requests : RequestsFit r.host.journal.flush.requests r.host.journal.flush.limit r.queues (k.seen r.sched) (m.seen r.dev)
   pub completions : CompletionsFit r.host.journal.flush.taken r.completions r.kept (m.seen r.dev)

@@ -46,6 +46,7 @@ pub record Start : Type 0 where
   pub capacity : ℕ
   pub programs : List (List Call)
 
+-- a session before its first event: nothing was submitted, and all queues are empty
 abbrev pub opened_session : {K S : Type 0} → Opening → Start → K → S → SessionState K S
 opened_session s b sched dev = record {
   host = opened_with s b.volume b.ring b.limit b.programs;
@@ -167,11 +168,13 @@ back = events.Commit ∷ events.FlushStep ∷ events.Accept ∷ events.Dispatch 
 abbrev pub round : ℕ → List CoreEvent
 round threads = map events.Call (range_with_len 1 threads) ++ back
 
+-- the events that the word of an event line stands for, where so many threads are there
 abbrev pub word_events : ℕ → EventWord → List CoreEvent
 word_events threads (One e) = e ∷ []
 word_events threads Round = round threads
 word_events threads Back = back
 
+-- so many copies of a list, one behind the other
 abbrev pub repeated : {X : Type 0} → ℕ → List X → List X
 repeated zero xs = []
 repeated (suc n) xs = xs ++ repeated n xs

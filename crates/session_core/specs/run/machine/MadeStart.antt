@@ -8,6 +8,7 @@ use Rattle.tree_model.specs.declared.call.Call.{Call}
 use Rattle.call_sessions.specs.Sessions.{made_now, made_ring}
 use Rattle.session_core.specs.run.machine.Machine.{Start}
 
+-- a session on a volume that was just made, whose journal is empty
 abbrev pub made_start : Geometry → ℕ → ℕ → ℕ → List (List Call) → Start
 made_start g journal limit capacity programs = record { volume = made_now g; ring = made_ring journal; limit = limit; capacity = capacity; programs = programs }
 

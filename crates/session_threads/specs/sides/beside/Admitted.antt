@@ -59,6 +59,7 @@ count_set (false ∷ fs) = count_set fs
 abbrev pub flags_behind : List Bool → Command → List Bool
 flags_behind flags c = unwrap_or (take_new flags (ids_of c)) []
 
+-- the device may take the command: its blocks are on the disk, and none of its ids came before
 abbrev pub may_take : List Bool → ℕ → Command → Bool
 may_take flags blocks c = is_fit blocks c && is_some (take_new flags (ids_of c))
 
