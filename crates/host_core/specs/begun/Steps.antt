@@ -1,6 +1,6 @@
 -- One step of a begun call, on the journal's part and the pages. `full` says that the submission queue was full.
 use Rattle.std.specs.List.{filter, list_any}
-use Rattle.std.specs.Prelude.{◌≡◌, ℕ, ◌==◌, Bool, true, not, ◌&&◌, ◌||◌, List, length, map, set, Some, None, is_none, if◌then◌else◌}
+use Rattle.std.specs.Prelude.{◌≡◌, ℕ, ◌≤◌, ◌^◌, ◌⊎◌, ◌==◌, Bool, true, not, ◌&&◌, ◌||◌, List, length, map, set, Some, None, is_none, if◌then◌else◌}
 use Rattle.order_model.specs.declared.note.Note.TheVariants as notes
 use Rattle.order_model.specs.declared.request.Kind.TheVariants as puts
 use Rattle.order_model.specs.declared.request.Request.{Request}
@@ -119,3 +119,17 @@ goes_on full j pages t w b =
       | Some id ↦ with_pages pages (waits_durable j t w id)
       | None ↦ elim w.target as (λ _. Gone) [ Some k ↦ with_pages pages (waits_for_commit j t w k) | None ↦ walks full j pages t w b ]
     ]
+
+-- ---- numbers of transactions that an answer cannot say
+
+-- it asks for the commit of a transaction whose number has more than 32 bits
+pub record IsGreatGoal (g : Goal) : Type 0 where
+  pub tx : ℕ
+  pub is : g ≡ AwaitCommit tx
+  pub great : 2 ^ 32 ≤ tx
+
+-- The begun call waits for a transaction whose number has more than 32 bits, or is to wait for one now.
+pub record WaitsForGreat (j : JournalPart) (w : Wait) (b : Begun) : Type 0 where
+  pub tx : ℕ
+  pub waits : (w.target ≡ Some tx) ⊎ (goal_of j b ≡ AwaitCommit tx)
+  pub great : 2 ^ 32 ≤ tx

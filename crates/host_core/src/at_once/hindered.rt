@@ -1,5 +1,5 @@
 //! A plain call that has to wait.
-ghost use Rattle.std.specs.Prelude.{◌≡◌, ℕ, List, if◌then◌else◌, IfOk, OnErr};
+ghost use Rattle.std.specs.Prelude.{◌≡◌, ◌<◌, ◌^◌, ℕ, List, if◌then◌else◌, IfOk, OnErr};
 ghost use Rattle.page_cache.specs.declared.cached_page.CachedPage.{CachedPage};
 ghost use Rattle.host_core.specs.begun.Causes.{cause_is};
 ghost use Rattle.host_core.specs.effects.Effects.{with_part};
@@ -15,7 +15,8 @@ use host_answers::Cause;
 
 // How many zones the commit of transactions below the running one will free.
 fn zones_to_come(journal: &JournalPart, volume: &PlainVolume) -> Result<u32, NoMemory>
-    ensures { IfOk result (λ n. n ≡ waits_below volume.now journal.now.part.running.number) }
+    ensures ok { IfOk result (λ n. n ≡ waits_below volume.now journal.now.part.running.number) }
+    ensures great { OnErr result (2 ^ 32 < journal.now.part.running.number) }
 {
     let Some(last) = journal.running().number().checked_sub(1) else {
         return Ok(0);
@@ -28,7 +29,8 @@ fn zones_to_come(journal: &JournalPart, volume: &PlainVolume) -> Result<u32, NoM
 
 // Whether a call that waits for this wants the running transaction closed.
 fn wants_closed(journal: &JournalPart, volume: &PlainVolume, cause: Cause) -> Result<bool, NoMemory>
-    ensures { IfOk result (λ wants. (if wants then wanting journal.now.part else journal.now.part) ≡ hindered volume.now (cause_is cause) journal.now.part) }
+    ensures ok { IfOk result (λ wants. (if wants then wanting journal.now.part else journal.now.part) ≡ hindered volume.now (cause_is cause) journal.now.part) }
+    ensures great { OnErr result (2 ^ 32 < journal.now.part.running.number) }
 {
     match cause {
         Cause::TxFull(_) => Ok(true),
@@ -37,7 +39,8 @@ fn wants_closed(journal: &JournalPart, volume: &PlainVolume, cause: Cause) -> Re
     }
 }
 
-// The call waits, where the session may have more requests.
+/// The call waits, where the session may have more requests. It takes no memory: `NoMemory` stands for a running transaction
+/// whose number has more than 32 bits.
 pub fn hinder(
     journal: &mut JournalPart,
     volume: &PlainVolume,
@@ -47,6 +50,7 @@ pub fn hinder(
         record { parts = record { journal = journal.new.part; volume = volume.now; pages = ps; owners = os }; progress = progress_is p } ≡
         hinders (record { journal = journal.old.part; volume = volume.now; pages = ps; owners = os }) (cause_is cause)) }
     ensures err { OnErr result (journal.new ≡ journal.old) }
+    ensures great { OnErr result (2 ^ 32 < journal.old.part.running.number) }
     ensures same { journal.new ≡ with_part journal.old journal.old.spare journal.new.part }
 {
     if journal.flush().at_limit() {

@@ -3,7 +3,7 @@ ghost use Rattle.std.specs.Prelude.{◌≡◌, ◌<◌, ◌++◌, true, IfOk, On
 ghost use Rattle.page_cache.specs.Pages as cache;
 ghost use Rattle.flush_actor.specs.Outcomes.{sent_between};
 ghost use Rattle.flush_actor.specs.Waits.{no_wait};
-ghost use Rattle.host_core.specs.begun.Steps.{goes_on, keeps_all};
+ghost use Rattle.host_core.specs.begun.Steps.{goes_on, keeps_all, WaitsForGreat};
 ghost use Rattle.host_core.specs.begun.code.Told.{gone_by, found_queue_full};
 
 use crate::begun::Begun;
@@ -28,6 +28,7 @@ pub fn go_on<O: Outlet<Request>>(
     ensures step { IfOk result (λ p. gone_by begun.now.list journal.new.part pages.new.pages p ≡
         goes_on (found_queue_full p) journal.old.part pages.old.pages thread (slice_index_or journal.old.part.flush.waits thread no_wait) begun.now) }
     ensures err { OnErr result ((journal.new ≡ journal.old) × (pages.new ≡ pages.old)) }
+    ensures great { OnErr result (WaitsForGreat journal.old.part (slice_index_or journal.old.part.flush.waits thread no_wait) begun.now) }
     ensures same { keeps_all journal.old journal.new }
     ensures pages { pages.new ≡ cache.with_pages pages.old pages.new.pages }
     ensures sent { O.sent out.new ≡ O.sent out.old ++ sent_between journal.old.part.flush journal.new.part.flush }

@@ -1,10 +1,10 @@
 //! What a begun call does once no page is left: it waits, or is answered.
-ghost use Rattle.std.specs.Prelude.{◌≡◌, ℕ, ◌<◌, false, List, Some, None, IfOk, OnErr, length, slice_index_or};
+ghost use Rattle.std.specs.Prelude.{◌≡◌, ℕ, ◌<◌, ◌≤◌, ◌^◌, false, List, Some, None, IfOk, OnErr, length, slice_index_or};
 ghost use Rattle.flush_actor.specs.Waits.{no_wait};
 ghost use Rattle.flush_actor.specs.declared.wait.Wait.{Wait};
 ghost use Rattle.host_machine.specs.Host as machine;
 ghost use Rattle.host_core.specs.begun.Causes.{cause_is};
-ghost use Rattle.host_core.specs.begun.Steps.{waits_durable, waits_for_put, waits_for_commit, pursues, keeps_all};
+ghost use Rattle.host_core.specs.begun.Steps.{waits_durable, waits_for_put, waits_for_commit, pursues, keeps_all, IsGreatGoal};
 ghost use Rattle.host_core.specs.begun.code.Told.{went_by, goal_is, found_queue_full};
 ghost use Rattle.host_core.specs.declared.begun.waiting.Progress.TheVariants as told;
 
@@ -42,6 +42,7 @@ pub enum Goal {
 // Of what a call waits for transaction `k`.
 fn cause_of(journal: &JournalPart, k: u64) -> Result<Cause, NoMemory>
     ensures cause { IfOk result (λ c. cause_is c ≡ machine.cause_of journal.now.part k) }
+    ensures great { OnErr result (2 ^ 32 ≤ k) }
     ensures waits { IfOk result (λ c. found_queue_full (told.Waiting c) ≡ false) }
 {
     if k == journal.running().number()
@@ -119,6 +120,7 @@ pub fn await_commit(
     requires thread { thread < length journal.old.part.flush.waits }
     ensures ok { (list : List (ℕ × ℕ)) → IfOk result (λ p. went_by list journal.new.part p ≡ waits_for_commit journal.old.part thread wait k) }
     ensures err { OnErr result (journal.new ≡ journal.old) }
+    ensures great { OnErr result (2 ^ 32 ≤ k) }
     ensures same { keeps_all journal.old journal.new }
     ensures silent { journal.new.part.flush.requests ≡ journal.old.part.flush.requests }
     ensures waits { IfOk result (λ p. found_queue_full p ≡ false) }
@@ -166,6 +168,7 @@ fn fix_target(
     requires need { wait.need ≡ None }
     ensures ok { (list : List (ℕ × ℕ)) → IfOk result (λ p. went_by list journal.new.part p ≡ pursues journal.old.part thread wait (machine.AwaitCommit k)) }
     ensures err { OnErr result (journal.new ≡ journal.old) }
+    ensures great { OnErr result (2 ^ 32 ≤ k) }
     ensures same { keeps_all journal.old journal.new }
     ensures silent { journal.new.part.flush.requests ≡ journal.old.part.flush.requests }
     ensures waits { IfOk result (λ p. found_queue_full p ≡ false) }
@@ -197,6 +200,7 @@ pub fn pursue(
     requires need { wait.need ≡ None }
     ensures ok { (list : List (ℕ × ℕ)) → IfOk result (λ p. went_by list journal.new.part p ≡ pursues journal.old.part thread wait (machine.goal_of journal.old.part begun.now)) }
     ensures err { OnErr result (journal.new ≡ journal.old) }
+    ensures great { OnErr result (IsGreatGoal (machine.goal_of journal.old.part begun.now)) }
     ensures same { keeps_all journal.old journal.new }
     ensures silent { journal.new.part.flush.requests ≡ journal.old.part.flush.requests }
     ensures waits { IfOk result (λ p. found_queue_full p ≡ false) }
