@@ -8,7 +8,7 @@ use Rattle.session_core.specs.Core.{core, entry_in}
 use Rattle.session_core.specs.Headline.{Headline}
 use Rattle.session_core.specs.Report.{IsCoreReport}
 use Rattle.session_core.specs.declared.report.SessionReport.{SessionReport}
-use Rattle.wal_store.specs.declared.log.Held.{Held}
+use Rattle.wal_store.specs.declared.log.LogContents.{LogContents}
 use Rattle.wal_store.specs.Log.{held_in}
 use Rattle.store_grammar.specs.declared.script.StoreScript.{StoreScript}
 use Rattle.store_grammar.specs.Made.{volume_script}
@@ -23,12 +23,12 @@ counted s r history is noted =
     ap (acknowledged_from 0 0) (ap (λ ps. map (entry_in ps) history) (sym is.report.programs) ∙ sym noted ∙ ap (λ h. h.history) is.report.host)
 
 -- the log is that of the tree which the blocks were read of
-pub held-pairs : {E : Type 0} (r : Result Held E) (blocks : List (List ℕ)) → IfOk r (λ h. h ≡ held_in blocks) → IfOk r (λ h. ArePairs h.pairs)
-held-pairs (Ok h) blocks is = subst (λ (x : Held). ArePairs x.pairs) (sym is) (pairs-held blocks)
+pub held-pairs : {E : Type 0} (r : Result LogContents E) (blocks : List (List ℕ)) → IfOk r (λ h. h ≡ held_in blocks) → IfOk r (λ h. ArePairs h.pairs)
+held-pairs (Ok h) blocks is = subst (λ (x : LogContents). ArePairs x.pairs) (sym is) (pairs-held blocks)
 held-pairs (Err e) blocks is = tt
 
 -- the volume is that of what the power cut left
-pub held-after : (s : SessionScript) (r : SessionReport) (room : ℕ) (h : Held) → IsCoreReport s r → IsHeldOn room r.volume h → IsHeldAfter room r h
+pub held-after : (s : SessionScript) (r : SessionReport) (room : ℕ) (h : LogContents) → IsCoreReport s r → IsHeldOn room r.volume h → IsHeldAfter room r h
 held-after s r room h is on = record { tree = on.tree; recovered = ap tree_after is.report.volume ∙ on.stands; held = on.held }
 
 -- ---- the script that ran is the store's volume script

@@ -1,6 +1,6 @@
 //! What a store's session leaves.
 use session_core::SessionReport;
-use wal_store::Held;
+use wal_store::LogContents;
 
 /// What is told of a store's session.
 #[derive(Drop)]
@@ -12,7 +12,7 @@ pub struct StoreSummary {
     /// Puts that ended before the last flush that was answered with `ok`.
     pub acknowledged: u64,
     /// What the log holds once it was recovered.
-    pub held: Held,
+    pub held: LogContents,
 }
 
 /// What a store's session left.

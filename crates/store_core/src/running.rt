@@ -17,10 +17,10 @@ use session_grammar::SessionScript;
 use std::alloc::Global;
 use store_grammar::{StoreScript, made_scripts_are_well_formed, volume_script};
 use volume_ops::Volume;
-use wal_store::{Held, read_log};
+use wal_store::{LogContents, read_log};
 
 // What the log on a volume holds, of so many blocks at most.
-fn held_on(alloc: Global, room: u32, volume: &Volume) -> Result<Held, NoMemory>
+fn held_on(alloc: Global, room: u32, volume: &Volume) -> Result<LogContents, NoMemory>
     requires { room < 2 ^ 32 }
     ensures held { IfOk result (IsHeldOn room volume.now) }
     ensures pairs { IfOk result (λ h. ArePairs h.pairs) }

@@ -4,7 +4,7 @@ use Rattle.std.specs.Option.{option_and_then, option_or}
 use Rattle.std.specs.Str.{bytes_eq}
 use Rattle.tree_model.specs.Maps.{put_name}
 use Rattle.wal_store.specs.declared.puts.Put.{Put}
-use Rattle.wal_store.specs.declared.log.Held.{Held}
+use Rattle.wal_store.specs.declared.log.LogContents.{LogContents}
 use Rattle.wal_store.specs.Blocks.{decode}
 
 -- ---- puts
@@ -44,7 +44,7 @@ abbrev pub pairs_of : List Put → Pairs
 pairs_of ps = pairs_after [] ps
 
 -- How many puts a log holds, and what they leave.
-abbrev pub held_in : List (List ℕ) → Held
+abbrev pub held_in : List (List ℕ) → LogContents
 held_in blocks = record { count = length (held_puts blocks); pairs = pairs_of (held_puts blocks) }
 
 -- ---- the same in words of places and of last puts

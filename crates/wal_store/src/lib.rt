@@ -16,5 +16,5 @@ mod puts;
 
 pub use blocks::{decode, encode};
 pub use laws::{logs_hold_the_first_puts, pairs_have_last_values, puts_are_read_back};
-pub use log::{Held, Pairs, read_log};
+pub use log::{LogContents, Pairs, read_log};
 pub use puts::{MOST_KEY, MOST_VALUE, Op, Ops, Put, Text, is_key, is_value};

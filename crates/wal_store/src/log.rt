@@ -54,7 +54,7 @@ impl Pairs {
 
 /// What a log holds.
 #[derive(Drop)]
-pub struct Held {
+pub struct LogContents {
     /// How many puts, from the first one on.
     pub count: u32,
     /// What these puts leave.
@@ -72,7 +72,7 @@ fn put_numbered(alloc: Global, number: u32, block: &Block) -> Result<Option<Put>
 }
 
 /// Reads the blocks of a log, from its first one on.
-pub fn read_log(alloc: Global, blocks: &[Block]) -> Result<Held, NoMemory>
+pub fn read_log(alloc: Global, blocks: &[Block]) -> Result<LogContents, NoMemory>
     requires { length blocks.now < 2 ^ 32 }
     ensures { IfOk result (λ h. h ≡ held_in blocks.now) }
 {
@@ -80,10 +80,10 @@ pub fn read_log(alloc: Global, blocks: &[Block]) -> Result<Held, NoMemory>
     let mut pairs = Pairs::new(alloc);
     for block in blocks {
         let Some(put) = put_numbered(alloc, count + 1, block)? else {
-            return Ok(Held { count, pairs });
+            return Ok(LogContents { count, pairs });
         };
         pairs.put(put.key, put.value)?;
         count += 1;
     }
-    Ok(Held { count, pairs })
+    Ok(LogContents { count, pairs })
 }
