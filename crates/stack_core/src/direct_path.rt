@@ -1,5 +1,5 @@
 //! The request path without a scheduler.
-ghost use Rattle.std.specs.Prelude.{◌≡◌, Some, slice_get};
+ghost use Rattle.std.specs.Prelude.{◌≡◌, false, Some, slice_get};
 ghost use Rattle.order_model.specs.declared.request.Request.{Request};
 ghost use Rattle.order_model.specs.Device.{IsReceivable};
 ghost use Rattle.order_model.specs.Machine.{machine_of};
@@ -44,21 +44,24 @@ impl DirectPath {
         self.next
     }
 
-    /// The next request goes to the device as a command of its own, where there is one and there is room.
-    pub fn hand_to<D: OrderedDev>(&mut self, dev: &mut D, requests: &RequestList)
+    /// The next request goes to the device as a command of its own, where there is one and there is room. Otherwise it
+    /// answers false.
+    pub fn hand_to<D: OrderedDev>(&mut self, dev: &mut D, requests: &RequestList) -> bool
         requires { (r : Request) → slice_get requests.now self.old ≡ Some r → IsReceivable (D.seen (D.state dev.old)) (command_for r) }
-        ensures { record { before = self.new; dev = D.state dev.new } ≡
+        ensures step { record { before = self.new; dev = D.state dev.new } ≡
             handed (machine_of D.OrderedDev) (record { before = self.old; dev = D.state dev.old }) (given_alone self.old (slice_get requests.now self.old)) }
+        ensures idle { result ≡ false → (self.new ≡ self.old) × (D.state dev.new ≡ D.state dev.old) }
     {
         if !dev.room() {
-            return;
+            return false;
         }
         let Some(request) = requests.get(self.next) else {
-            return;
+            return false;
         };
         let flagged = request.barrier;
         self.command.carry(request, flagged);
         dev.take_in(&self.command);
         self.next += 1;
+        true
     }
 }

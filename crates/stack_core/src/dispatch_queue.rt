@@ -1,5 +1,5 @@
 //! The queue behind a scheduler.
-ghost use Rattle.std.specs.Prelude.{◌≡◌, List, [], ◌∷◌, None, IfOk};
+ghost use Rattle.std.specs.Prelude.{◌≡◌, false, List, [], ◌∷◌, None, IfOk};
 ghost use Rattle.order_model.specs.declared.command.Command.{Command};
 ghost use Rattle.order_model.specs.Device.{IsReceivable};
 ghost use Rattle.order_model.specs.Machine.{machine_of};
@@ -46,43 +46,54 @@ impl DispatchQueue {
         })
     }
 
-    /// The command that is kept is sent, or else the one of the scheduler's pick.
-    pub fn dispatch<S: Scheduler>(&mut self, sched: &mut S, pick: u32)
+    /// The command that is kept is sent, or else the one of the scheduler's pick. It answers false where nothing was done.
+    pub fn dispatch<S: Scheduler>(&mut self, sched: &mut S, pick: u32) -> bool
         ensures step { (q : QueuesState) → record { queues = with_dispatch q self.new; sched = S.state sched.new } ≡
             layer_dispatched S.steps (record { queues = with_dispatch q self.old; sched = S.state sched.old }) pick }
         ensures capacity { self.new.capacity ≡ self.old.capacity }
+        ensures idle { result ≡ false → (self.new ≡ self.old) × (S.state sched.new ≡ S.state sched.old) }
     {
-        if !self.is_kept {
-            self.is_kept = sched.dispatch_into(pick, &mut self.last);
+        if self.is_kept {
+            return self.send_kept();
         }
+        if !sched.dispatch_into(pick, &mut self.last) {
+            return false;
+        }
+        self.is_kept = true;
         self.send_kept();
+        true
     }
 
-    // The command that is kept goes into the queue, where there is one and the queue is not full.
-    fn send_kept(&mut self)
+    // The command that is kept goes into the queue, where there is one and the queue is not full. Otherwise it answers false.
+    fn send_kept(&mut self) -> bool
         ensures step { (q : QueuesState) → with_dispatch q self.new ≡ queued_or_kept_option (with_dispatch q self.old) self.old.kept }
         ensures capacity { self.new.capacity ≡ self.old.capacity }
+        ensures idle { result ≡ false → self.new ≡ self.old }
     {
-        if self.is_kept && !self.commands.is_full() {
-            self.commands.push(&self.last);
-            self.is_kept = false;
+        if !self.is_kept || self.commands.is_full() {
+            return false;
         }
+        self.commands.push(&self.last);
+        self.is_kept = false;
+        true
     }
 
-    /// The first command goes to the device, where there is one and there is room.
-    pub fn hand_to<D: OrderedDev>(&mut self, dev: &mut D)
+    /// The first command goes to the device, where there is one and there is room. Otherwise it answers false.
+    pub fn hand_to<D: OrderedDev>(&mut self, dev: &mut D) -> bool
         requires { (c : Command) (cs : List Command) → self.old.dispatched ≡ c ∷ cs → IsReceivable (D.seen (D.state dev.old)) c }
         ensures step { (q : QueuesState) → record { before = with_dispatch q self.new; dev = D.state dev.new } ≡
             handed (machine_of D.OrderedDev) (record { before = with_dispatch q self.old; dev = D.state dev.old }) (given_first (with_dispatch q self.old) self.old.dispatched) }
         ensures capacity { self.new.capacity ≡ self.old.capacity }
+        ensures idle { result ≡ false → (self.new ≡ self.old) × (D.state dev.new ≡ D.state dev.old) }
     {
         if !dev.room() {
-            return;
+            return false;
         }
         let Some(command) = self.commands.first() else {
-            return;
+            return false;
         };
         dev.take_in(command);
         self.commands.remove_first();
+        true
     }
 }

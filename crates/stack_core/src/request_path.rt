@@ -1,5 +1,5 @@
 //! The request path: how the requests of a script reach the device.
-ghost use Rattle.std.specs.Prelude.{◌≡◌, Some, IfOk};
+ghost use Rattle.std.specs.Prelude.{◌≡◌, false, Some, IfOk};
 ghost use Rattle.order_model.specs.declared.command.Command.{Command};
 ghost use Rattle.order_model.specs.Device.{Seen, IsReceivable};
 ghost use Rattle.order_model.specs.Machine.{machine_of};
@@ -48,27 +48,34 @@ impl RequestPath {
         }
     }
 
-    /// An event of the host or the scheduler. Those of the device do nothing here.
-    pub fn step<S: Scheduler>(&mut self, sched: &mut S, requests: &RequestList, event: CoreEvent)
+    /// An event of the host or the scheduler. Those of the device do nothing here. It answers false where nothing was done.
+    pub fn step<S: Scheduler>(
+        &mut self,
+        sched: &mut S,
+        requests: &RequestList,
+        event: CoreEvent,
+    ) -> bool
         requires { (d : Seen) × PathFits self.old (S.steps.seen (S.state sched.old)) requests.now d }
-        ensures { record { path = self.new; sched = S.state sched.new } ≡ stepped S.steps requests.now (record { path = self.old; sched = S.state sched.old }) event }
+        ensures step { record { path = self.new; sched = S.state sched.new } ≡ stepped S.steps requests.now (record { path = self.old; sched = S.state sched.old }) event }
+        ensures idle { result ≡ false → (self.new ≡ self.old) × (S.state sched.new ≡ S.state sched.old) }
     {
         let RequestPath::Scheduled(queues) = self else {
-            return;
+            return false;
         };
         match event {
             CoreEvent::Submit => queues.submit(requests),
             CoreEvent::Accept => queues.accept(sched),
             CoreEvent::Dispatch(pick) => queues.dispatch(sched, pick),
-            _ => {}
+            _ => false,
         }
     }
 
-    /// The next command goes to the device, where there is one and there is room.
-    pub fn hand_to<D: OrderedDev>(&mut self, dev: &mut D, requests: &RequestList)
+    /// The next command goes to the device, where there is one and there is room. Otherwise it answers false.
+    pub fn hand_to<D: OrderedDev>(&mut self, dev: &mut D, requests: &RequestList) -> bool
         requires { (c : Command) (f : RequestPath) → given requests.now self.old ≡ Some (c, f) → IsReceivable (D.seen (D.state dev.old)) c }
-        ensures { record { before = self.new; dev = D.state dev.new } ≡
+        ensures step { record { before = self.new; dev = D.state dev.new } ≡
             handed (machine_of D.OrderedDev) (record { before = self.old; dev = D.state dev.old }) (given requests.now self.old) }
+        ensures idle { result ≡ false → (self.new ≡ self.old) × (D.state dev.new ≡ D.state dev.old) }
     {
         match self {
             RequestPath::Direct(direct) => direct.hand_to(dev, requests),

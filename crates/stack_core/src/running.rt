@@ -1,5 +1,5 @@
 //! The run of a script on a scheduler and a device.
-ghost use Rattle.std.specs.Prelude.{◌≡◌, ◌++◌, ◌≤◌, [], length, IfOk, Some, None};
+ghost use Rattle.std.specs.Prelude.{◌≡◌, ◌++◌, ◌≤◌, false, [], length, IfOk, Some, None};
 ghost use Rattle.blk_base.specs.Image.{zeros};
 ghost use Rattle.order_model.specs.Machine.{machine_of};
 ghost use Rattle.script_grammar.specs.Grammar.{IsRunnable, blocks_of};
@@ -21,14 +21,14 @@ use schedulers::reassign::{CAPACITY, Scheduler};
 use script_grammar::{CoreEvent, EventLine, EventWord, Form, RequestList, Script};
 use std::alloc::Global;
 
-// One event.
+// One event. It answers false where nothing was done.
 fn do_event<S: Scheduler, D: OrderedDev>(
     path: &mut RequestPath,
     sched: &mut S,
     dev: &mut D,
     requests: &RequestList,
     event: CoreEvent,
-)
+) -> bool
     requires valid { D.valid (D.state dev.old) }
     requires scheduler { S.valid (S.state sched.old) }
     requires path { PathFits path.old (S.steps.seen (S.state sched.old)) requests.now (D.seen (D.state dev.old)) }
@@ -37,28 +37,25 @@ fn do_event<S: Scheduler, D: OrderedDev>(
     ensures scheduler { S.valid (S.state sched.new) }
     ensures base { (D.seen (D.state dev.new)).base ≡ (D.seen (D.state dev.old)).base }
     ensures path { PathFits path.new (S.steps.seen (S.state sched.new)) requests.now (D.seen (D.state dev.new)) }
+    ensures idle { result ≡ false → (path.new ≡ path.old) × (S.state sched.new ≡ S.state sched.old) × (D.state dev.new ≡ D.state dev.old) }
 {
     match event {
         CoreEvent::Receive => receive_next(path, sched, dev, requests),
-        CoreEvent::Transfer(pick) => {
-            dev.transfer(pick);
-        }
-        CoreEvent::Persist(pick) => {
-            dev.persist(pick);
-        }
+        CoreEvent::Transfer(pick) => dev.transfer(pick),
+        CoreEvent::Persist(pick) => dev.persist(pick),
         CoreEvent::Submit | CoreEvent::Accept | CoreEvent::Dispatch(_) => path.step(
             sched, requests, event,
         ),
     }
 }
 
-// The next command goes to the device, where there is one and there is room.
+// The next command goes to the device, where there is one and there is room. Otherwise it answers false.
 fn receive_next<S: Scheduler, D: OrderedDev>(
     path: &mut RequestPath,
     sched: &mut S,
     dev: &mut D,
     requests: &RequestList,
-)
+) -> bool
     requires valid { D.valid (D.state dev.old) }
     requires scheduler { S.valid (S.state sched.old) }
     requires path { PathFits path.old (S.steps.seen (S.state sched.old)) requests.now (D.seen (D.state dev.old)) }
@@ -67,11 +64,12 @@ fn receive_next<S: Scheduler, D: OrderedDev>(
     ensures scheduler { S.valid (S.state sched.new) }
     ensures base { (D.seen (D.state dev.new)).base ≡ (D.seen (D.state dev.old)).base }
     ensures path { PathFits path.new (S.steps.seen (S.state sched.new)) requests.now (D.seen (D.state dev.new)) }
+    ensures idle { result ≡ false → (path.new ≡ path.old) × (S.state sched.new ≡ S.state sched.old) × (D.state dev.new ≡ D.state dev.old) }
 {
-    path.hand_to(dev, requests);
+    path.hand_to(dev, requests)
 }
 
-// One event, so many times.
+// One event, so many times. It ends where the event does nothing: that does nothing again.
 fn repeat_event<S: Scheduler, D: OrderedDev>(
     path: &mut RequestPath,
     sched: &mut S,
@@ -90,7 +88,9 @@ fn repeat_event<S: Scheduler, D: OrderedDev>(
     ensures path { PathFits path.new (S.steps.seen (S.state sched.new)) requests.now (D.seen (D.state dev.new)) }
 {
     for i in 0..count {
-        do_event(path, sched, dev, requests, event);
+        if !do_event(path, sched, dev, requests, event) {
+            return;
+        }
     }
 }
 

@@ -1,5 +1,5 @@
 //! The two queues of the block layer, before and behind its scheduler.
-ghost use Rattle.std.specs.Prelude.{◌≡◌, ◌∷◌, List, IfOk};
+ghost use Rattle.std.specs.Prelude.{◌≡◌, ◌∷◌, false, List, IfOk};
 ghost use Rattle.order_model.specs.declared.command.Command.{Command};
 ghost use Rattle.order_model.specs.declared.request.Request.{Request};
 ghost use Rattle.order_model.specs.Device.{IsReceivable};
@@ -59,57 +59,67 @@ impl SchedulerQueues {
     }
 
     /// The next of the requests goes into the submission queue, where there is one and the queue is not
-    /// full.
-    pub fn submit(&mut self, requests: &RequestList)
-        ensures { self.new ≡ submitted requests.now self.old }
+    /// full. Otherwise it answers false.
+    pub fn submit(&mut self, requests: &RequestList) -> bool
+        ensures step { self.new ≡ submitted requests.now self.old }
+        ensures idle { result ≡ false → self.new ≡ self.old }
     {
         if self.submission.is_full() {
-            return;
+            return false;
         }
         let Some(request) = requests.get(self.next) else {
-            return;
+            return false;
         };
         self.submission.push(request);
         self.next += 1;
+        true
     }
 
-    /// The scheduler takes a request from the submission queue, where it can accept one and there is one.
-    pub fn accept<S: Scheduler>(&mut self, sched: &mut S)
+    /// The scheduler takes a request from the submission queue, where it can accept one and there is one. Otherwise it
+    /// answers false.
+    pub fn accept<S: Scheduler>(&mut self, sched: &mut S) -> bool
         requires { (r : Request) (rs : List Request) → self.old.submission ≡ r ∷ rs → IsAcceptable (S.steps.seen (S.state sched.old)) r }
-        ensures { record { queues = self.new; sched = S.state sched.new } ≡ layer_accepted S.steps (record { queues = self.old; sched = S.state sched.old }) }
+        ensures step { record { queues = self.new; sched = S.state sched.new } ≡ layer_accepted S.steps (record { queues = self.old; sched = S.state sched.old }) }
+        ensures idle { result ≡ false → (self.new ≡ self.old) × (S.state sched.new ≡ S.state sched.old) }
     {
-        accept_from(&mut self.submission, sched);
+        accept_from(&mut self.submission, sched)
     }
 
-    /// The command that is kept is sent, or else the one of the scheduler's pick.
-    pub fn dispatch<S: Scheduler>(&mut self, sched: &mut S, pick: u32)
-        ensures { record { queues = self.new; sched = S.state sched.new } ≡ layer_dispatched S.steps (record { queues = self.old; sched = S.state sched.old }) pick }
+    /// The command that is kept is sent, or else the one of the scheduler's pick. It answers false where nothing was done.
+    pub fn dispatch<S: Scheduler>(&mut self, sched: &mut S, pick: u32) -> bool
+        ensures step { record { queues = self.new; sched = S.state sched.new } ≡ layer_dispatched S.steps (record { queues = self.old; sched = S.state sched.old }) pick }
+        ensures idle { result ≡ false → (self.new ≡ self.old) × (S.state sched.new ≡ S.state sched.old) }
     {
-        self.behind.dispatch(sched, pick);
+        self.behind.dispatch(sched, pick)
     }
 
-    /// The first command behind the scheduler goes to the device, where there is one and there is room.
-    pub fn hand_to<D: OrderedDev>(&mut self, dev: &mut D)
+    /// The first command behind the scheduler goes to the device, where there is one and there is room. Otherwise it
+    /// answers false.
+    pub fn hand_to<D: OrderedDev>(&mut self, dev: &mut D) -> bool
         requires { (c : Command) (cs : List Command) → self.old.dispatched ≡ c ∷ cs → IsReceivable (D.seen (D.state dev.old)) c }
-        ensures { record { before = self.new; dev = D.state dev.new } ≡
+        ensures step { record { before = self.new; dev = D.state dev.new } ≡
             handed (machine_of D.OrderedDev) (record { before = self.old; dev = D.state dev.old }) (given_first self.old self.old.dispatched) }
+        ensures idle { result ≡ false → (self.new ≡ self.old) × (D.state dev.new ≡ D.state dev.old) }
     {
-        self.behind.hand_to(dev);
+        self.behind.hand_to(dev)
     }
 }
 
-/// The scheduler takes a request from this submission queue, where it can accept one and there is one.
-pub fn accept_from<S: Scheduler>(submission: &mut ListQueue<Request>, sched: &mut S)
+/// The scheduler takes a request from this submission queue, where it can accept one and there is one. Otherwise it
+/// answers false.
+pub fn accept_from<S: Scheduler>(submission: &mut ListQueue<Request>, sched: &mut S) -> bool
     requires { (r : Request) (rs : List Request) → submission.old.held ≡ r ∷ rs → IsAcceptable (S.steps.seen (S.state sched.old)) r }
     ensures step { (q : QueuesState) → record { queues = with_submission q submission.new.held; sched = S.state sched.new } ≡
         layer_accepted S.steps (record { queues = with_submission q submission.old.held; sched = S.state sched.old }) }
     ensures capacity { submission.new.capacity ≡ submission.old.capacity }
+    ensures idle { result ≡ false → (submission.new ≡ submission.old) × (S.state sched.new ≡ S.state sched.old) }
 {
     if !sched.can_accept() {
-        return;
+        return false;
     }
     let Some(request) = submission.take() else {
-        return;
+        return false;
     };
     let _ = sched.accept(request);
+    true
 }

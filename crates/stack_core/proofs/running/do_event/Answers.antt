@@ -11,7 +11,7 @@ returns-in-Submit-clause-scheduler g c =
     let d = t.seen (t.state c.args.dev.now) in
     let rs = c.args.requests.now in
     let old : PathState k.State = record { path = c.args.path.now; sched = k.state c.args.sched.now } in
-    (subst (λ r. IsBefore k.steps k.valid r rs d) (sym c.step.ensures) (stepped-path k.steps k.valid rs old c.args.event d g.met.S.Scheduler.keeps c.requires.scheduler c.requires.path)).keeps
+    (subst (λ r. IsBefore k.steps k.valid r rs d) (sym c.step.ensures.step) (stepped-path k.steps k.valid rs old c.args.event d g.met.S.Scheduler.keeps c.requires.scheduler c.requires.path)).keeps
 
 pub returns-in-Submit-clause-path : goal.returns-in-Submit-clause-path
 returns-in-Submit-clause-path g c =
@@ -20,4 +20,4 @@ returns-in-Submit-clause-path g c =
     let d = t.seen (t.state c.args.dev.now) in
     let rs = c.args.requests.now in
     let old : PathState k.State = record { path = c.args.path.now; sched = k.state c.args.sched.now } in
-    (subst (λ r. IsBefore k.steps k.valid r rs d) (sym c.step.ensures) (stepped-path k.steps k.valid rs old c.args.event d g.met.S.Scheduler.keeps c.requires.scheduler c.requires.path)).path
+    (subst (λ r. IsBefore k.steps k.valid r rs d) (sym c.step.ensures.step) (stepped-path k.steps k.valid rs old c.args.event d g.met.S.Scheduler.keeps c.requires.scheduler c.requires.path)).path

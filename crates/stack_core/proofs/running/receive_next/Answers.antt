@@ -1,5 +1,5 @@
 -- The path hands the device its next command.
-use Rattle.std.proofs.Common.{sym, ap, subst, ◌∙◌}
+use Rattle.std.proofs.Common.{refl, sym, ap, subst, ◌∙◌}
 use Rattle.order_model.specs.Machine.{machine_of}
 use Rattle.stack_core.specs.declared.request_path.RequestPath.{RequestPath}
 use Rattle.stack_core.specs.Handing.{Handing}
@@ -28,11 +28,12 @@ returns g c =
     let old : Handing RequestPath t.State = record { before = c.args.path.now; dev = s } in
     let held = path-handed m t.valid g.met.D.OrderedDev.receives rs p old c.requires.valid c.requires.path
     (g.met.S.Scheduler.keeps.carries sched c.requires.scheduler) (g.met.D.OrderedDev.surface s c.requires.valid).blocks in
-    let after = subst (IsHanded m t.valid g.met.D.OrderedDev.receives rs p s) (sym c.hand_to.ensures) held in
+    let after = subst (IsHanded m t.valid g.met.D.OrderedDev.receives rs p s) (sym c.hand_to.ensures.step) held in
     record {
-      step = ap (λ (h : Handing RequestPath t.State). record { path = h.before; sched = sched; dev = h.dev }) c.hand_to.ensures ∙ received_handed m sched old (given rs c.args.path.now);
+      step = ap (λ (h : Handing RequestPath t.State). record { path = h.before; sched = sched; dev = h.dev }) c.hand_to.ensures.step ∙ received_handed m sched old (given rs c.args.path.now);
       valid = after.keeps;
       scheduler = c.requires.scheduler;
       base = after.base;
       path = after.path;
+      idle = λ none. let same = c.hand_to.ensures.idle none in (same.0, refl, same.1);
     }
