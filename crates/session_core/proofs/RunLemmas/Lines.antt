@@ -1,5 +1,5 @@
 -- Events and lines, one after the other.
-use Rattle.std.proofs.Common.{◌≡◌, ℕ, ◌+◌, ◌-◌, ◌<◌, ◌≤◌, suc, List, [], ◌∷◌, ◌++◌, length, map, drop, get_or, Result, Ok, Err, OnErr, OnOk, refl, sym, ap, ◌∙◌, arith, add-one}
+use Rattle.std.proofs.Common.{◌≡◌, ℕ, ◌+◌, ◌-◌, ◌<◌, ◌≤◌, suc, List, [], ◌∷◌, ◌++◌, length, map, drop, get_or, Result, Ok, Err, OnErr, OnOk, refl, sym, ap, ◌∙◌, arith, add-one, zero}
 use Rattle.std.specs.List.{range_with_len}
 use Rattle.std.proofs.lemmas.List.{drop_all}
 use Rattle.std.proofs.Math.Seq.{drop-cons}
@@ -28,10 +28,6 @@ calls_from first count = map events.Call (range_with_len first count)
 pub ok_map : {A E : Type 0} (result : Result A E) (P Q : Type 0) → (P → Q) → OnOk result P → OnOk result Q
 ok_map (Ok x) P Q f h = f h
 ok_map (Err x) P Q f h = tt
-
-pub ok_both : {A E : Type 0} (result : Result A E) (P Q R : Type 0) → (P → Q → R) → OnOk result P → OnOk result Q → OnOk result R
-ok_both (Ok x) P Q R f p q = f p q
-ok_both (Err x) P Q R f p q = tt
 
 -- what follows where it is Err
 pub err_map : {A E : Type 0} (result : Result A E) (P Q : Type 0) → (P → Q) → OnErr result P → OnErr result Q
@@ -74,6 +70,16 @@ module _ {K S : Type 0} (s : Opening) (k : SchedSteps K) (m : Machine S) where
   pub repeats_end : (r : SessionState K S) (es : List CoreEvent) (n i : ℕ) → n ≤ i → run r (repeated (n - i) es) ≡ r
   unfolding run_events
   repeats_end r es n i le = ap (λ c. run r (repeated c es)) (none_left n i le)
+
+  -- what does nothing once does nothing many times
+  repeats_idle : (r : SessionState K S) (es : List CoreEvent) (n : ℕ) → run r es ≡ r → run r (repeated n es) ≡ r
+  unfolding run_events
+  repeats_idle r es zero e = refl
+  repeats_idle r es (suc n) e = events_append s k m r es (repeated n es) ∙ ap (λ x. run x (repeated n es)) e ∙ repeats_idle r es n e
+
+  -- where the events did nothing, the repeats that are left may be left out
+  pub repeats_stop : (r new : SessionState K S) (es : List CoreEvent) (n : ℕ) → new ≡ run r es → new ≡ r → new ≡ run r (repeated n es)
+  repeats_stop r new es n did same = same ∙ sym (repeats_idle r es n (sym did ∙ same))
 
   -- ---- lines
 

@@ -1,5 +1,5 @@
 //! The queues of a session.
-ghost use Rattle.std.specs.Prelude.{◌≡◌, ◌≢◌, ◌-◌, ◌≤◌, ◌∷◌, ℕ, List, IfOk, OnErr, OnOk, slice_get, length};
+ghost use Rattle.std.specs.Prelude.{◌≡◌, ◌≢◌, ◌-◌, ◌≤◌, ◌∷◌, ℕ, false, List, Some, IfOk, OnErr, OnOk, slice_get, length};
 ghost use Rattle.order_model.specs.declared.command.Command.{Command};
 ghost use Rattle.order_model.specs.declared.request.Request.{Request};
 ghost use Rattle.order_model.specs.Device.{IsReceivable};
@@ -118,38 +118,42 @@ impl SessionQueues {
 
     // ---- the block layer
 
-    /// The scheduler takes a request, where it can accept one and there is one.
-    pub fn accept<S: Scheduler>(&mut self, sched: &mut S)
+    /// The scheduler takes a request, where it can accept one and there is one. Otherwise it answers false.
+    pub fn accept<S: Scheduler>(&mut self, sched: &mut S) -> bool
         requires { (r : Request) (rs : List Request) → self.old.submission ≡ r ∷ rs → IsAcceptable (S.steps.seen (S.state sched.old)) r }
         ensures step { (n : ℕ) → record { queues = layer_queues n self.new; sched = S.state sched.new } ≡
             layer_accepted S.steps (record { queues = layer_queues n self.old; sched = S.state sched.old }) }
         ensures completions { self.new.completions ≡ self.old.completions }
         ensures kept { self.new.kept ≡ self.old.kept }
+        ensures idle { result ≡ false → (self.new ≡ self.old) × (S.state sched.new ≡ S.state sched.old) }
     {
-        accept_from(&mut self.submission, sched);
+        accept_from(&mut self.submission, sched)
     }
 
-    /// The command that is kept is sent, or else the one of the scheduler's pick.
-    pub fn dispatch<S: Scheduler>(&mut self, sched: &mut S, pick: u32)
+    /// The command that is kept is sent, or else the one of the scheduler's pick. It answers false where nothing was done.
+    pub fn dispatch<S: Scheduler>(&mut self, sched: &mut S, pick: u32) -> bool
         ensures step { (n : ℕ) → record { queues = layer_queues n self.new; sched = S.state sched.new } ≡
             layer_dispatched S.steps (record { queues = layer_queues n self.old; sched = S.state sched.old }) pick }
         ensures completions { self.new.completions ≡ self.old.completions }
         ensures kept { self.new.kept ≡ self.old.kept }
+        ensures idle { result ≡ false → (self.new ≡ self.old) × (S.state sched.new ≡ S.state sched.old) }
     {
-        self.behind.dispatch(sched, pick);
+        self.behind.dispatch(sched, pick)
     }
 
     // ---- the device
 
-    /// The first command behind the scheduler goes to the device, where there is one and there is room.
-    pub fn hand_to<D: OrderedDev>(&mut self, dev: &mut D)
+    /// The first command behind the scheduler goes to the device, where there is one and there is room. Otherwise it
+    /// answers false.
+    pub fn hand_to<D: OrderedDev>(&mut self, dev: &mut D) -> bool
         requires { (c : Command) (cs : List Command) → self.old.dispatched ≡ c ∷ cs → IsReceivable (D.seen (D.state dev.old)) c }
         ensures step { (n : ℕ) → record { before = layer_queues n self.new; dev = D.state dev.new } ≡
             handed (machine_of D.OrderedDev) (record { before = layer_queues n self.old; dev = D.state dev.old }) (given_first (layer_queues n self.old) self.old.dispatched) }
         ensures completions { self.new.completions ≡ self.old.completions }
         ensures kept { self.new.kept ≡ self.old.kept }
+        ensures idle { result ≡ false → (self.new ≡ self.old) × (D.state dev.new ≡ D.state dev.old) }
     {
-        self.behind.hand_to(dev);
+        self.behind.hand_to(dev)
     }
 
     /// The completion that is kept.
@@ -159,16 +163,18 @@ impl SessionQueues {
         self.kept
     }
 
-    /// The completion goes into its queue; where that is full, it is kept.
-    pub fn complete(&mut self, completion: Completion)
-        ensures { self.new ≡ with_completion self.old completion }
+    /// The completion goes into its queue; where that is full, it is kept, and the answer is false.
+    pub fn complete(&mut self, completion: Completion) -> bool
+        ensures step { self.new ≡ with_completion self.old completion }
+        ensures full { result ≡ false → self.new ≡ record self.old { kept = Some completion } }
     {
         if self.completions.is_full() {
             self.kept = Some(completion);
-        } else {
-            self.completions.push(completion);
-            self.kept = None;
+            return false;
         }
+        self.completions.push(completion);
+        self.kept = None;
+        true
     }
 }
 

@@ -1,5 +1,5 @@
 //! The parts of a running session, and what each event does to them.
-ghost use Rattle.std.specs.Prelude.{◌≡◌, ◌∷◌, List, OnOk, map};
+ghost use Rattle.std.specs.Prelude.{◌≡◌, ◌∷◌, false, List, Ok, OnOk, map};
 ghost use Rattle.std.specs.List.{range_with_len};
 ghost use Rattle.order_model.specs.Device.{IsReceivable};
 ghost use Rattle.order_model.specs.declared.command.Command.{Command};
@@ -39,25 +39,30 @@ const BACK: [CoreEvent; 8] = [
 ];
 
 impl<S: Scheduler, D: OrderedDev> RunningSession<S, D> {
-    // The next command goes to the device, where there is one and there is room.
-    fn receive(&mut self)
+    // The next command goes to the device, where there is one and there is room. Otherwise it answers false.
+    fn receive(&mut self) -> bool
         requires { (c : Command) (cs : List Command) → self.old.queues.dispatched ≡ c ∷ cs → IsReceivable (D.seen (D.state self.old.dev)) c }
         ensures step { (s : Opening) → state_of S.Scheduler D.OrderedDev self.new ≡ after_event S.Scheduler D.OrderedDev s self.old events.Receive }
         ensures host { self.new.host ≡ self.old.host }
+        ensures idle { result ≡ false → state_of S.Scheduler D.OrderedDev self.new ≡ state_of S.Scheduler D.OrderedDev self.old }
     {
-        self.queues.hand_to(&mut self.dev);
+        self.queues.hand_to(&mut self.dev)
     }
 
-    // The completion that is kept goes to the host, or else the device's next one.
-    fn answer(&mut self)
+    // The completion that is kept goes to the host, or else the device's next one. It answers false where nothing was done.
+    fn answer(&mut self) -> bool
         ensures step { (s : Opening) → state_of S.Scheduler D.OrderedDev self.new ≡ after_event S.Scheduler D.OrderedDev s self.old events.Answer }
         ensures host { self.new.host ≡ self.old.host }
+        ensures idle { result ≡ false → state_of S.Scheduler D.OrderedDev self.new ≡ state_of S.Scheduler D.OrderedDev self.old }
     {
         if let Some(kept) = self.queues.kept() {
-            self.queues.complete(kept);
-        } else if let Some(completion) = self.dev.answer() {
-            self.queues.complete(completion);
+            return self.queues.complete(kept);
         }
+        let Some(completion) = self.dev.answer() else {
+            return false;
+        };
+        self.queues.complete(completion);
+        true
     }
 
     // The flush actor takes its step, where it may take one completion more.
@@ -73,49 +78,38 @@ impl<S: Scheduler, D: OrderedDev> RunningSession<S, D> {
         }
     }
 
-    /// One event.
-    pub fn do_event(&mut self, alloc: Global, event: CoreEvent) -> Result<(), NoMemory>
+    /// One event. It answers false where nothing was done.
+    pub fn do_event(&mut self, alloc: Global, event: CoreEvent) -> Result<bool, NoMemory>
         requires { (b : Beginning S.State D.State) × IsAt S.Scheduler D.OrderedDev b self.old }
         ensures step { (b : Beginning S.State D.State) → IsAt S.Scheduler D.OrderedDev b self.old →
             OnOk result (state_of S.Scheduler D.OrderedDev self.new ≡ after_event S.Scheduler D.OrderedDev b.opening self.old event) }
         ensures reached { (b : Beginning S.State D.State) → IsAt S.Scheduler D.OrderedDev b self.old → OnOk result (IsAt S.Scheduler D.OrderedDev b self.new) }
+        ensures idle { result ≡ Ok false → state_of S.Scheduler D.OrderedDev self.new ≡ state_of S.Scheduler D.OrderedDev self.old }
     {
         match event {
-            CoreEvent::Call(0) | CoreEvent::Submit => Ok(()),
-            CoreEvent::Call(thread) => self.queues.call(alloc, &mut self.host, thread),
-            CoreEvent::Commit => self.queues.commit(alloc, &mut self.host),
+            CoreEvent::Call(0) | CoreEvent::Submit => Ok(false),
+            CoreEvent::Call(thread) => {
+                self.queues.call(alloc, &mut self.host, thread)?;
+                Ok(true)
+            }
+            CoreEvent::Commit => {
+                self.queues.commit(alloc, &mut self.host)?;
+                Ok(true)
+            }
             CoreEvent::Writeback(pick) => {
                 self.queues.writeback(&mut self.host, pick);
-                Ok(())
+                Ok(true)
             }
             CoreEvent::FlushStep => {
                 self.flush();
-                Ok(())
+                Ok(true)
             }
-            CoreEvent::Accept => {
-                self.queues.accept(&mut self.sched);
-                Ok(())
-            }
-            CoreEvent::Dispatch(pick) => {
-                self.queues.dispatch(&mut self.sched, pick);
-                Ok(())
-            }
-            CoreEvent::Receive => {
-                self.receive();
-                Ok(())
-            }
-            CoreEvent::Transfer(pick) => {
-                self.dev.transfer(pick);
-                Ok(())
-            }
-            CoreEvent::Persist(pick) => {
-                self.dev.persist(pick);
-                Ok(())
-            }
-            CoreEvent::Answer => {
-                self.answer();
-                Ok(())
-            }
+            CoreEvent::Accept => Ok(self.queues.accept(&mut self.sched)),
+            CoreEvent::Dispatch(pick) => Ok(self.queues.dispatch(&mut self.sched, pick)),
+            CoreEvent::Receive => Ok(self.receive()),
+            CoreEvent::Transfer(pick) => Ok(self.dev.transfer(pick)),
+            CoreEvent::Persist(pick) => Ok(self.dev.persist(pick)),
+            CoreEvent::Answer => Ok(self.answer()),
         }
     }
 
@@ -145,24 +139,29 @@ impl<S: Scheduler, D: OrderedDev> RunningSession<S, D> {
         Ok(())
     }
 
-    // What a line says, once.
-    fn do_word(&mut self, alloc: Global, threads: u32, word: EventWord) -> Result<(), NoMemory>
+    // What a line says, once. It answers false where nothing was done.
+    fn do_word(&mut self, alloc: Global, threads: u32, word: EventWord) -> Result<bool, NoMemory>
         requires { (b : Beginning S.State D.State) × IsAt S.Scheduler D.OrderedDev b self.old }
         ensures step { (b : Beginning S.State D.State) → IsAt S.Scheduler D.OrderedDev b self.old →
             OnOk result (state_of S.Scheduler D.OrderedDev self.new ≡ after_events S.Scheduler D.OrderedDev b.opening self.old (word_events threads word)) }
         ensures reached { (b : Beginning S.State D.State) → IsAt S.Scheduler D.OrderedDev b self.old → OnOk result (IsAt S.Scheduler D.OrderedDev b self.new) }
+        ensures idle { result ≡ Ok false → state_of S.Scheduler D.OrderedDev self.new ≡ state_of S.Scheduler D.OrderedDev self.old }
     {
         match word {
             EventWord::One(event) => self.do_event(alloc, event),
             EventWord::Round => {
                 self.call_all(alloc, threads)?;
-                self.do_all(alloc, &BACK)
+                self.do_all(alloc, &BACK)?;
+                Ok(true)
             }
-            EventWord::Back => self.do_all(alloc, &BACK),
+            EventWord::Back => {
+                self.do_all(alloc, &BACK)?;
+                Ok(true)
+            }
         }
     }
 
-    // An event line, as often as it says.
+    // An event line, as often as it says. It ends where the line's event does nothing: that does nothing again.
     fn do_line(&mut self, alloc: Global, threads: u32, line: EventLine) -> Result<(), NoMemory>
         requires { (b : Beginning S.State D.State) × IsAt S.Scheduler D.OrderedDev b self.old }
         ensures step { (b : Beginning S.State D.State) → IsAt S.Scheduler D.OrderedDev b self.old →
@@ -170,7 +169,9 @@ impl<S: Scheduler, D: OrderedDev> RunningSession<S, D> {
         ensures reached { (b : Beginning S.State D.State) → IsAt S.Scheduler D.OrderedDev b self.old → OnOk result (IsAt S.Scheduler D.OrderedDev b self.new) }
     {
         for done in 0..line.count {
-            self.do_word(alloc, threads, line.what)?;
+            if !self.do_word(alloc, threads, line.what)? {
+                return Ok(());
+            }
         }
         Ok(())
     }

@@ -5,7 +5,6 @@ use Rattle.line_grammar.specs.declared.events.event.CoreEvent.TheVariants.{Recei
 use Rattle.session_core.specs.run.machine.Fits.{IsDevice}
 use Rattle.session_core.specs.run.code.Session.{after_event, IsAt}
 use Rattle.session_core.specs.run.Beginning.{Beginning}
-use Rattle.session_core.proofs.RunLemmas.Lines.{ok_both}
 use Rattle.session_core.proofs.RunLemmas.Reaching.{may_accept, may_receive, leads_call, leads_commit, leads_writeback, leads_accept, leads_dispatch, leads_transfer, leads_persist, leads_as}
 use Rattle.session_core.proofs.run.running.RunningSession.do_event.Goals as goal
 
@@ -25,36 +24,53 @@ receive-requires g c =
     let r = c.args.self.now in
     may_receive k.steps (machine_of d) k.valid d.valid g.met.S.Scheduler.keeps device c.requires.0 r.host r.queues (k.state r.sched) (d.state r.dev) c.requires.1
 
-pub returns-in-Call : goal.returns-in-Call
-returns-in-Call g c =
+pub returns-in_ok-call-in-Call-clause-step : goal.returns-in_ok-call-in-Call-clause-step
+returns-in_ok-call-in-Call-clause-step g c =
     let k = g.S.Scheduler in
     let d = g.D.OrderedDev in
     let device : IsDevice (machine_of d) d.valid = record { receives = g.met.D.OrderedDev.receives; transfers = g.met.D.OrderedDev.transfers; persists = g.met.D.OrderedDev.persists; no_transfer = g.met.D.OrderedDev.no_transfer; no_persist = g.met.D.OrderedDev.no_persist; answers = g.met.D.OrderedDev.answers; surface = g.met.D.OrderedDev.surface } in
     let r = c.args.self.now in
-    record {
-      step = λ b at. ok_both c.call.result _ _ _ (λ did sent. (leads_call k.steps (machine_of d) k.valid d.valid g.met.S.Scheduler.keeps device b r.host r.queues (k.state r.sched) (d.state r.dev) at c.call.new.host c.call.new.self c.in-Call.thread (search rules) did sent).step ∙ ap (after_event k d b.opening r) (sym c.in-Call.is)) c.call.ensures.host c.call.ensures.queues;
-      reached = λ b at. ok_both c.call.result _ _ _ (λ did sent. (leads_call k.steps (machine_of d) k.valid d.valid g.met.S.Scheduler.keeps device b r.host r.queues (k.state r.sched) (d.state r.dev) at c.call.new.host c.call.new.self c.in-Call.thread (search rules) did sent).reached) c.call.ensures.host c.call.ensures.queues;
-    }
+    λ b at. (leads_call k.steps (machine_of d) k.valid d.valid g.met.S.Scheduler.keeps device b r.host r.queues (k.state r.sched) (d.state r.dev) at c.call.new.host c.call.new.self c.in-Call.thread (search rules) c.in_ok-call-in-Call.ensures.host c.in_ok-call-in-Call.ensures.queues).step ∙ ap (after_event k d b.opening r) (sym c.in-Call.is)
 
-pub returns-in-Commit : goal.returns-in-Commit
-returns-in-Commit g c =
+pub returns-in_ok-call-in-Call-clause-reached : goal.returns-in_ok-call-in-Call-clause-reached
+returns-in_ok-call-in-Call-clause-reached g c =
     let k = g.S.Scheduler in
     let d = g.D.OrderedDev in
     let device : IsDevice (machine_of d) d.valid = record { receives = g.met.D.OrderedDev.receives; transfers = g.met.D.OrderedDev.transfers; persists = g.met.D.OrderedDev.persists; no_transfer = g.met.D.OrderedDev.no_transfer; no_persist = g.met.D.OrderedDev.no_persist; answers = g.met.D.OrderedDev.answers; surface = g.met.D.OrderedDev.surface } in
     let r = c.args.self.now in
-    record {
-      step = λ b at. ok_both c.commit.result _ _ _ (λ did sent. (leads_commit k.steps (machine_of d) k.valid d.valid g.met.S.Scheduler.keeps device b r.host r.queues (k.state r.sched) (d.state r.dev) at c.commit.new.host c.commit.new.self did sent).step ∙ ap (after_event k d b.opening r) (sym c.in-Commit.is)) c.commit.ensures.host c.commit.ensures.queues;
-      reached = λ b at. ok_both c.commit.result _ _ _ (λ did sent. (leads_commit k.steps (machine_of d) k.valid d.valid g.met.S.Scheduler.keeps device b r.host r.queues (k.state r.sched) (d.state r.dev) at c.commit.new.host c.commit.new.self did sent).reached) c.commit.ensures.host c.commit.ensures.queues;
-    }
+    λ b at. (leads_call k.steps (machine_of d) k.valid d.valid g.met.S.Scheduler.keeps device b r.host r.queues (k.state r.sched) (d.state r.dev) at c.call.new.host c.call.new.self c.in-Call.thread (search rules) c.in_ok-call-in-Call.ensures.host c.in_ok-call-in-Call.ensures.queues).reached
 
-pub returns-in-Writeback : goal.returns-in-Writeback
-returns-in-Writeback g c =
+pub returns-in_ok-commit-in-Commit-clause-step : goal.returns-in_ok-commit-in-Commit-clause-step
+returns-in_ok-commit-in-Commit-clause-step g c =
     let k = g.S.Scheduler in
     let d = g.D.OrderedDev in
     let device : IsDevice (machine_of d) d.valid = record { receives = g.met.D.OrderedDev.receives; transfers = g.met.D.OrderedDev.transfers; persists = g.met.D.OrderedDev.persists; no_transfer = g.met.D.OrderedDev.no_transfer; no_persist = g.met.D.OrderedDev.no_persist; answers = g.met.D.OrderedDev.answers; surface = g.met.D.OrderedDev.surface } in
     let r = c.args.self.now in
-    let led = λ (b : Beginning k.State d.State) (at : IsAt k d b r). leads_writeback k.steps (machine_of d) k.valid d.valid g.met.S.Scheduler.keeps device b r.host r.queues (k.state r.sched) (d.state r.dev) at c.writeback.new.host c.writeback.new.self c.in-Writeback.pick c.writeback.ensures.host c.writeback.ensures.queues in
-    record { step = λ b at. (led b at).step ∙ ap (after_event k d b.opening r) (sym c.in-Writeback.is); reached = λ b at. (led b at).reached }
+    λ b at. (leads_commit k.steps (machine_of d) k.valid d.valid g.met.S.Scheduler.keeps device b r.host r.queues (k.state r.sched) (d.state r.dev) at c.commit.new.host c.commit.new.self c.in_ok-commit-in-Commit.ensures.host c.in_ok-commit-in-Commit.ensures.queues).step ∙ ap (after_event k d b.opening r) (sym c.in-Commit.is)
+
+pub returns-in_ok-commit-in-Commit-clause-reached : goal.returns-in_ok-commit-in-Commit-clause-reached
+returns-in_ok-commit-in-Commit-clause-reached g c =
+    let k = g.S.Scheduler in
+    let d = g.D.OrderedDev in
+    let device : IsDevice (machine_of d) d.valid = record { receives = g.met.D.OrderedDev.receives; transfers = g.met.D.OrderedDev.transfers; persists = g.met.D.OrderedDev.persists; no_transfer = g.met.D.OrderedDev.no_transfer; no_persist = g.met.D.OrderedDev.no_persist; answers = g.met.D.OrderedDev.answers; surface = g.met.D.OrderedDev.surface } in
+    let r = c.args.self.now in
+    λ b at. (leads_commit k.steps (machine_of d) k.valid d.valid g.met.S.Scheduler.keeps device b r.host r.queues (k.state r.sched) (d.state r.dev) at c.commit.new.host c.commit.new.self c.in_ok-commit-in-Commit.ensures.host c.in_ok-commit-in-Commit.ensures.queues).reached
+
+pub returns-in-Writeback-clause-step : goal.returns-in-Writeback-clause-step
+returns-in-Writeback-clause-step g c =
+    let k = g.S.Scheduler in
+    let d = g.D.OrderedDev in
+    let device : IsDevice (machine_of d) d.valid = record { receives = g.met.D.OrderedDev.receives; transfers = g.met.D.OrderedDev.transfers; persists = g.met.D.OrderedDev.persists; no_transfer = g.met.D.OrderedDev.no_transfer; no_persist = g.met.D.OrderedDev.no_persist; answers = g.met.D.OrderedDev.answers; surface = g.met.D.OrderedDev.surface } in
+    let r = c.args.self.now in
+    λ b at. (leads_writeback k.steps (machine_of d) k.valid d.valid g.met.S.Scheduler.keeps device b r.host r.queues (k.state r.sched) (d.state r.dev) at c.writeback.new.host c.writeback.new.self c.in-Writeback.pick c.writeback.ensures.host c.writeback.ensures.queues).step ∙ ap (after_event k d b.opening r) (sym c.in-Writeback.is)
+
+pub returns-in-Writeback-clause-reached : goal.returns-in-Writeback-clause-reached
+returns-in-Writeback-clause-reached g c =
+    let k = g.S.Scheduler in
+    let d = g.D.OrderedDev in
+    let device : IsDevice (machine_of d) d.valid = record { receives = g.met.D.OrderedDev.receives; transfers = g.met.D.OrderedDev.transfers; persists = g.met.D.OrderedDev.persists; no_transfer = g.met.D.OrderedDev.no_transfer; no_persist = g.met.D.OrderedDev.no_persist; answers = g.met.D.OrderedDev.answers; surface = g.met.D.OrderedDev.surface } in
+    let r = c.args.self.now in
+    λ b at. (leads_writeback k.steps (machine_of d) k.valid d.valid g.met.S.Scheduler.keeps device b r.host r.queues (k.state r.sched) (d.state r.dev) at c.writeback.new.host c.writeback.new.self c.in-Writeback.pick c.writeback.ensures.host c.writeback.ensures.queues).reached
 
 pub returns-in-FlushStep-clause-step : goal.returns-in-FlushStep-clause-step
 returns-in-FlushStep-clause-step g c =
@@ -95,26 +111,34 @@ returns-in-Persist-clause-reached g c =
     let r = c.args.self.now in
     λ b at. (leads_persist k.steps (machine_of d) k.valid d.valid g.met.S.Scheduler.keeps device b r.host r.queues (k.state r.sched) (d.state r.dev) at c.in-Persist.pick (d.state c.persist.new.self) c.persist.ensures.state).reached
 
-pub returns-in-Receive : goal.returns-in-Receive
-returns-in-Receive g c =
+pub returns-in-Receive-clause-step : goal.returns-in-Receive-clause-step
+returns-in-Receive-clause-step g c =
+    let k = g.S.Scheduler in
+    let d = g.D.OrderedDev in
+    let r = c.args.self.now in
+    λ b at. c.receive.ensures.step b.opening ∙ ap (after_event k d b.opening r) (sym c.in-Receive.is)
+
+pub returns-in-Receive-clause-reached : goal.returns-in-Receive-clause-reached
+returns-in-Receive-clause-reached g c =
     let k = g.S.Scheduler in
     let d = g.D.OrderedDev in
     let device : IsDevice (machine_of d) d.valid = record { receives = g.met.D.OrderedDev.receives; transfers = g.met.D.OrderedDev.transfers; persists = g.met.D.OrderedDev.persists; no_transfer = g.met.D.OrderedDev.no_transfer; no_persist = g.met.D.OrderedDev.no_persist; answers = g.met.D.OrderedDev.answers; surface = g.met.D.OrderedDev.surface } in
     let r = c.args.self.now in
     let new = c.receive.new.self in
-    record {
-      step = λ b at. c.receive.ensures.step b.opening ∙ ap (after_event k d b.opening r) (sym c.in-Receive.is);
-      reached = λ b at. (leads_as k.steps (machine_of d) k.valid d.valid g.met.S.Scheduler.keeps device b r.host r.queues (k.state r.sched) (d.state r.dev) at Receive new.host new.queues (k.state new.sched) (d.state new.dev) (c.receive.ensures.step b.opening) c.receive.ensures.host).reached;
-    }
+    λ b at. (leads_as k.steps (machine_of d) k.valid d.valid g.met.S.Scheduler.keeps device b r.host r.queues (k.state r.sched) (d.state r.dev) at Receive new.host new.queues (k.state new.sched) (d.state new.dev) (c.receive.ensures.step b.opening) c.receive.ensures.host).reached
 
-pub returns-in-Answer : goal.returns-in-Answer
-returns-in-Answer g c =
+pub returns-in-Answer-clause-step : goal.returns-in-Answer-clause-step
+returns-in-Answer-clause-step g c =
+    let k = g.S.Scheduler in
+    let d = g.D.OrderedDev in
+    let r = c.args.self.now in
+    λ b at. c.answer.ensures.step b.opening ∙ ap (after_event k d b.opening r) (sym c.in-Answer.is)
+
+pub returns-in-Answer-clause-reached : goal.returns-in-Answer-clause-reached
+returns-in-Answer-clause-reached g c =
     let k = g.S.Scheduler in
     let d = g.D.OrderedDev in
     let device : IsDevice (machine_of d) d.valid = record { receives = g.met.D.OrderedDev.receives; transfers = g.met.D.OrderedDev.transfers; persists = g.met.D.OrderedDev.persists; no_transfer = g.met.D.OrderedDev.no_transfer; no_persist = g.met.D.OrderedDev.no_persist; answers = g.met.D.OrderedDev.answers; surface = g.met.D.OrderedDev.surface } in
     let r = c.args.self.now in
     let new = c.answer.new.self in
-    record {
-      step = λ b at. c.answer.ensures.step b.opening ∙ ap (after_event k d b.opening r) (sym c.in-Answer.is);
-      reached = λ b at. (leads_as k.steps (machine_of d) k.valid d.valid g.met.S.Scheduler.keeps device b r.host r.queues (k.state r.sched) (d.state r.dev) at Answer new.host new.queues (k.state new.sched) (d.state new.dev) (c.answer.ensures.step b.opening) c.answer.ensures.host).reached;
-    }
+    λ b at. (leads_as k.steps (machine_of d) k.valid d.valid g.met.S.Scheduler.keeps device b r.host r.queues (k.state r.sched) (d.state r.dev) at Answer new.host new.queues (k.state new.sched) (d.state new.dev) (c.answer.ensures.step b.opening) c.answer.ensures.host).reached

@@ -22,29 +22,21 @@ returns-in-One-clause-step g c =
     ∙ ap (λ w. after_events k d b.opening old (word_events c.args.threads w)) (sym c.in-One.is))
     (c.do_event.ensures.step b at)
 
-pub returns-in_ok-call_all-in-Round-clause-step : goal.returns-in_ok-call_all-in-Round-clause-step
-returns-in_ok-call_all-in-Round-clause-step g c =
+pub returns-in_ok-do_all-in-Round-clause-step : goal.returns-in_ok-do_all-in-Round-clause-step
+returns-in_ok-do_all-in-Round-clause-step g c =
     let k = g.S.Scheduler in
     let d = g.D.OrderedDev in
     let old = c.args.self.now in
     let called = c.in_ok-call_all-in-Round.ensures in
     λ b at.
-    ok_map c.do_all.result _ _
-    (λ e.
-    e ∙ ap (λ r. run b.opening k.steps (machine_of d) r back) (called.step b at)
+    c.in_ok-do_all-in-Round.ensures.step b (called.reached b at)
+    ∙ ap (λ r. run b.opening k.steps (machine_of d) r back) (called.step b at)
     ∙ sym (events_append b.opening k.steps (machine_of d) (state_of k d old) (calls_from 1 c.args.threads) back)
-    ∙ ap (λ w. after_events k d b.opening old (word_events c.args.threads w)) (sym c.in-Round.is))
-    (c.do_all.ensures.step b (called.reached b at))
+    ∙ ap (λ w. after_events k d b.opening old (word_events c.args.threads w)) (sym c.in-Round.is)
 
-pub returns-in_ok-call_all-in-Round-clause-reached : goal.returns-in_ok-call_all-in-Round-clause-reached
-returns-in_ok-call_all-in-Round-clause-reached g c = λ b at. c.do_all.ensures.reached b (c.in_ok-call_all-in-Round.ensures.reached b at)
-
-pub returns-in-Back-clause-step : goal.returns-in-Back-clause-step
-returns-in-Back-clause-step g c =
+pub returns-in_ok-do_all-in-Back-clause-step : goal.returns-in_ok-do_all-in-Back-clause-step
+returns-in_ok-do_all-in-Back-clause-step g c =
     let k = g.S.Scheduler in
     let d = g.D.OrderedDev in
     let old = c.args.self.now in
-    λ b at.
-    ok_map c.do_all-in-Back.result _ _
-    (λ e. e ∙ ap (λ w. after_events k d b.opening old (word_events c.args.threads w)) (sym c.in-Back.is))
-    (c.do_all-in-Back.ensures.step b at)
+    λ b at. c.in_ok-do_all-in-Back.ensures.step b at ∙ ap (λ w. after_events k d b.opening old (word_events c.args.threads w)) (sym c.in-Back.is)
