@@ -24,7 +24,7 @@ use Rattle.host_core.specs.Now.{HostNow, model_now, setup_now, with_host}
 use Rattle.host_core.specs.code.Fields.{IsNext, IsWithin, AreWithin, host_of, program_of, thread_of}
 use Rattle.host_core.specs.code.Progress.{Went, steps_call, settled, with_parts, progress_is, list_of, is_queue_full}
 use Rattle.host_answers.specs.declared.entry.Entry.{Entry}
-use Rattle.host_core.specs.declared.found.Found.{Found}
+use Rattle.host_core.specs.declared.call_progress.CallProgress.{CallProgress}
 use Rattle.host_core.specs.declared.thread.Thread.{Thread}
 use Rattle.host_core.proofs.Steps.{IsPlainLaw, IsBegunLaw, step_is}
 
@@ -104,12 +104,12 @@ module _ (j : CommitActor) (v : VolumeNow) (ps : Cache) (owners cuts : List ℕ)
   parts = record { journal = j.part; volume = v; pages = ps.pages; owners = owners }
 
   -- what is noted in the end, of a thread as it was found
-  abbrev Settles : CommitActor → CommitActor → VolumeNow → Cache → List ℕ → List Entry → Thread → Found → Step → Thread → Type 0
+  abbrev Settles : CommitActor → CommitActor → VolumeNow → Cache → List ℕ → List Entry → Thread → CallProgress → Step → Thread → Type 0
   Settles k l w qs taken entries new f answer x = (c : Call) (rest : List Call) → IsNext ts at x c rest → IfStepped answer (λ a.
       (let y : Stepped VolumeNow Call Reply = record { host = (host_of l w qs taken entries cuts (set ts at new)).host; step = a } in y)
       ≡ settled (host_of k w qs taken h cuts ts).host at c rest x.begun (progress_is (list_of x.begun) f))
 
-  pub advanced_is : IsPlainLaw → IsBegunLaw → (k l : CommitActor) (w : VolumeNow) (qs : Cache) (taken : List ℕ) (entries : List Entry) (old new : Thread) (c : Call) (n : ℕ) (f : Found) (answer : Step)
+  pub advanced_is : IsPlainLaw → IsBegunLaw → (k l : CommitActor) (w : VolumeNow) (qs : Cache) (taken : List ℕ) (entries : List Entry) (old new : Thread) (c : Call) (n : ℕ) (f : CallProgress) (answer : Step)
       → slice_get th.program.items th.ended ≡ Some c → n ≡ length h + 1 → old ≡ th
       → (let x : Went = record { parts = record { journal = k.part; volume = w; pages = qs.pages; owners = taken }; progress = progress_is (list_of th.begun) f } in x)
       ≡ steps_call (is_queue_full f) (writers j.made_with) v.geometry.zmap (quota j.made_with) parts n at th.begun c

@@ -15,7 +15,7 @@ use Rattle.flush_actor.specs.declared.wait.Wait.{Wait}
 use Rattle.journal_ring.specs.running.Plan.{Writers}
 use Rattle.host_machine.specs.State.{Begun}
 use Rattle.host_core.specs.begun.Steps.{Gone, goes_on, keeps_all}
-use Rattle.host_core.specs.at_once.Steps.{with_part, Progress, Went, steps_plainly}
+use Rattle.host_core.specs.at_once.Steps.{with_part, PlainProgress, Went, steps_plainly}
 use Rattle.host_answers.specs.declared.entry.Entry.{Entry}
 use Rattle.host_core.specs.code.Fields.{IsHost, IsWithin, AreNoted}
 use Rattle.host_core.specs.code.Progress.{KeepsHost, parts_now}
@@ -73,7 +73,7 @@ going_kept old new full t w b part pages x is e same volume = record {
 }
 
 -- and a plain call's
-pub plain_kept : (old new : Parts) (writers : Writers) (zmap most n : ℕ) (c : Call) (x : Progress) → (let w : Went = record { parts = parts_now new; progress = x } in w) ≡ steps_plainly writers zmap most (parts_now old) n c
+pub plain_kept : (old new : Parts) (writers : Writers) (zmap most n : ℕ) (c : Call) (x : PlainProgress) → (let w : Went = record { parts = parts_now new; progress = x } in w) ≡ steps_plainly writers zmap most (parts_now old) n c
     → new.journal ≡ with_part old.journal new.journal.spare new.journal.part → KeepsHost old new
 plain_kept old new writers zmap most n c x e same =
     let silent = plainly_silent writers zmap most (parts_now old) n c in

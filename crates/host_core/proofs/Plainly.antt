@@ -14,7 +14,7 @@ use Rattle.host_machine.specs.Causes as causes
 use Rattle.host_machine.specs.Causes.{Cause}
 use Rattle.host_machine.specs.Model.{Freed}
 use Rattle.minix_host.specs.Volumes.{zones_of}
-use Rattle.host_core.specs.at_once.Steps.{hindrance_by, CallParts, Progress, Answered, Full, Waits, Went, wanting, hindered, done_on, does, hinders, steps_plainly}
+use Rattle.host_core.specs.at_once.Steps.{hindrance_by, CallParts, PlainProgress, Answered, Full, Waits, Went, wanting, hindered, done_on, does, hinders, steps_plainly}
 use Rattle.host_core.specs.code.Replies.{has_list}
 use Rattle.host_core.proofs.ListReplies.{list_keeps}
 use Rattle.host_core.proofs.SameDivision.{called_same}
@@ -77,7 +77,7 @@ module _ (writers : Writers) (zmap most : ℕ) (p : CallParts) (n : ℕ) (c : Ca
   answered_by : (q : CallParts) (reply : Reply) → (let w : Went = record { parts = q; progress = Answered reply } in w) ≡ steps_plainly writers zmap most p n c → (q ≡ (does p n c).parts) × (reply ≡ call.reply)
   answered_by q reply e = by (hindrance_by writers zmap most p.journal p.volume c) e
     where
-      told : Progress → Reply → Reply
+      told : PlainProgress → Reply → Reply
       told (Answered r) other = r
       told Full other = other
       told (Waits cause) other = other

@@ -67,7 +67,7 @@ module _ (law : IsPlainLaw) (begun_law : IsBegunLaw) (g : Geometry) (u : Setup) 
   abbrev after : Option Begun → Went → Stepped VolumeNow Call Reply
   after b w = settled (with_parts s w.parts) t c rest b w.progress
 
-  begun_same : (b : Begun) (part : JournalPart) (pages : List CachedPage) (x : begun_steps.Progress)
+  begun_same : (b : Begun) (part : JournalPart) (pages : List CachedPage) (x : begun_steps.BegunProgress)
       → after (Some b) (went_on (parts_in s) (record { part = part; pages = pages; progress = x }))
       ≡ begun.after_going (model g) u s t c rest b (record { part = part; pages = pages; progress = x })
   begun_same b part pages begun_steps.Answered = refl
@@ -75,7 +75,7 @@ module _ (law : IsPlainLaw) (begun_law : IsBegunLaw) (g : Geometry) (u : Setup) 
   begun_same b part pages (begun_steps.Sent id list barrier) = refl
   begun_same b part pages (begun_steps.Waits cause) = refl
 
-  plain_same : (p : CallParts) (x : plain_steps.Progress) → after None (went_plainly (record { parts = p; progress = x })) ≡ plain.after_going (model g) u s t c rest (record { parts = p; progress = x })
+  plain_same : (p : CallParts) (x : plain_steps.PlainProgress) → after None (went_plainly (record { parts = p; progress = x })) ≡ plain.after_going (model g) u s t c rest (record { parts = p; progress = x })
   plain_same p (plain_steps.Answered reply) = refl
   plain_same p plain_steps.Full = refl
   plain_same p (plain_steps.Waits cause) = refl

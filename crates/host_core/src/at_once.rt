@@ -13,4 +13,4 @@ mod step;
 
 pub use crate::gates::{PlainVolume, asked, kind_of, node_of};
 pub use laws::{plain_calls_step_on_their_parts, replies_are_of_the_tree};
-pub use step::{Progress, step_plainly};
+pub use step::{PlainProgress, step_plainly};

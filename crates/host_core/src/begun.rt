@@ -15,4 +15,4 @@ mod waiting;
 pub use begun::Begun;
 pub use going_on::go_on;
 pub use laws::begun_calls_step_on_their_parts;
-pub use waiting::Progress;
+pub use waiting::BegunProgress;

@@ -16,9 +16,9 @@
 mod answer;
 pub mod at_once;
 pub mod begun;
+mod call_progress;
 mod calling;
 pub mod effects;
-mod found;
 pub mod gates;
 mod host;
 pub mod lengths;

@@ -14,7 +14,7 @@ ghost use Rattle.host_answers.specs.declared.entry.EntryKind.TheVariants as kind
 ghost use Rattle.host_core.specs.declared.thread.Thread.{Thread};
 
 use crate::begun::Begun;
-use crate::found::Found;
+use crate::call_progress::CallProgress;
 use crate::thread::Thread;
 use commit_actor::JournalPart;
 use flush_actor::Wait;
@@ -113,7 +113,7 @@ pub fn settle(
     history: &mut Vec<Entry>,
     caller: &mut Thread,
     thread: u32,
-    found: Found,
+    found: CallProgress,
 ) -> Step
     requires thread { 1 ≤ thread }
     requires wait { thread - 1 < length journal.old.part.flush.waits }
@@ -132,32 +132,32 @@ pub fn settle(
     ensures notes { KeepsNotes thread caller.old caller.new history.old.items history.new.items }
 {
     match found {
-        Found::Answered(answer) => {
+        CallProgress::Answered(answer) => {
             let (given, noted) = answer.split();
             end_call(journal, history, caller, thread, noted);
             Step::Done(given)
         }
-        Found::Done => {
+        CallProgress::Done => {
             end_call(journal, history, caller, thread, Reply::Ok);
             Step::Done(Reply::Ok)
         }
-        Found::Full => {
+        CallProgress::Full => {
             end_call(journal, history, caller, thread, Reply::SessionFull);
             Step::SessionFull
         }
-        Found::Down => {
+        CallProgress::Down => {
             end_call(journal, history, caller, thread, Reply::Down);
             Step::Down
         }
-        Found::ReadOnly(id) => {
+        CallProgress::ReadOnly(id) => {
             end_call(journal, history, caller, thread, Reply::ReadOnly(id));
             Step::ReadOnly(id)
         }
-        Found::Begun(begun) => {
+        CallProgress::Begun(begun) => {
             begin_call(journal, history, caller, thread, begun);
             Step::Begun
         }
-        Found::Sent {
+        CallProgress::Sent {
             id,
             passed,
             barrier,
@@ -165,6 +165,6 @@ pub fn settle(
             pass_pages(caller, passed, barrier);
             Step::Sent(id)
         }
-        Found::Waiting(cause) => Step::Waiting(cause),
+        CallProgress::Waiting(cause) => Step::Waiting(cause),
     }
 }

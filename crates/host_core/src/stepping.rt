@@ -13,7 +13,7 @@ ghost use Rattle.host_core.specs.at_once.Steps.{steps_plainly};
 use crate::answer::Answer;
 use crate::at_once::{asked, kind_of, node_of, replies_are_of_the_tree, step_plainly};
 use crate::begun::{Begun, go_on};
-use crate::found::Found;
+use crate::call_progress::CallProgress;
 use crate::parts::Parts;
 use blk_base::NoMemory;
 use flush_actor::{CallKind, FlushPart};
@@ -22,18 +22,18 @@ use std::alloc::Global;
 use tree_model::Call;
 
 // What ends every call, or every call but those that read.
-fn stop_of(flush: &FlushPart, kind: CallKind) -> Option<Found>
+fn stop_of(flush: &FlushPart, kind: CallKind) -> Option<CallProgress>
     ensures stop { (list : List (ℕ × ℕ)) → option_map (progress_is list) result ≡ option_map Over (steps.stop_of flush.now.part.taken kind) }
     ensures queue { IfSome result (λ f. is_queue_full f ≡ false) }
 {
     if flush.is_cut() {
-        return Some(Found::Down);
+        return Some(CallProgress::Down);
     }
     if kind.is_reading() {
         return None;
     }
     match flush.first_failed() {
-        Some(id) => Some(Found::ReadOnly(id)),
+        Some(id) => Some(CallProgress::ReadOnly(id)),
         None => None,
     }
 }
@@ -44,7 +44,7 @@ fn go_further<O: Outlet<Request>>(
     thread: u32,
     begun: &Begun,
     out: &mut O,
-) -> Result<Found, NoMemory>
+) -> Result<CallProgress, NoMemory>
     requires { thread < length parts.old.journal.part.flush.waits }
     ensures step { (w : Writers) (zmap most n : ℕ) (c : Call) → IfOk result (λ f. record { parts = parts_now parts.new; progress = progress_is begun.now.list f } ≡
         goes_further (is_queue_full f) w zmap most (parts_now parts.old) n thread (Some begun.now) c) }
@@ -55,18 +55,18 @@ fn go_further<O: Outlet<Request>>(
     ensures rest { O.rest out.new ≡ O.rest out.old }
 {
     match go_on(&mut parts.journal, &mut parts.pages, thread, begun, out)? {
-        crate::begun::Progress::Answered => Ok(Found::Done),
-        crate::begun::Progress::Full => Ok(Found::Full),
-        crate::begun::Progress::Sent {
+        crate::begun::BegunProgress::Answered => Ok(CallProgress::Done),
+        crate::begun::BegunProgress::Full => Ok(CallProgress::Full),
+        crate::begun::BegunProgress::Sent {
             id,
             passed,
             barrier,
-        } => Ok(Found::Sent {
+        } => Ok(CallProgress::Sent {
             id,
             passed,
             barrier,
         }),
-        crate::begun::Progress::Waiting(cause) => Ok(Found::Waiting(cause)),
+        crate::begun::BegunProgress::Waiting(cause) => Ok(CallProgress::Waiting(cause)),
     }
 }
 
@@ -77,7 +77,7 @@ fn perform(
     number: u64,
     call: &Call,
     zones: u32,
-) -> Result<Found, NoMemory>
+) -> Result<CallProgress, NoMemory>
     requires refused { volumes.refusal parts.old.volume call.now ≡ None }
     requires zones { zones ≡ volumes.needed parts.old.volume call.now }
     requires blocks { parts.old.journal.blocks ≡ parts.old.volume.geometry.zones }
@@ -95,17 +95,22 @@ fn perform(
         pages,
         owners,
     } = parts;
-    match step_plainly(
-        alloc, journal, volume, pages, owners, number, call, zones,
-    )? {
-        crate::at_once::Progress::Answered(reply) => Ok(Found::Answered(Answer::of(alloc, reply)?)),
-        crate::at_once::Progress::Full => Ok(Found::Full),
-        crate::at_once::Progress::Waiting(cause) => Ok(Found::Waiting(cause)),
+    match step_plainly(alloc, journal, volume, pages, owners, number, call, zones)? {
+        crate::at_once::PlainProgress::Answered(reply) => Ok(CallProgress::Answered(Answer::of(
+            alloc, reply,
+        )?)),
+        crate::at_once::PlainProgress::Full => Ok(CallProgress::Full),
+        crate::at_once::PlainProgress::Waiting(cause) => Ok(CallProgress::Waiting(cause)),
     }
 }
 
 // The first step of a call.
-fn start(alloc: Global, parts: &mut Parts, number: u64, call: &Call) -> Result<Found, NoMemory>
+fn start(
+    alloc: Global,
+    parts: &mut Parts,
+    number: u64,
+    call: &Call,
+) -> Result<CallProgress, NoMemory>
     requires { parts.old.journal.blocks ≡ parts.old.volume.geometry.zones }
     ensures step { IfOk result (λ f. record { parts = parts_now parts.new; progress = progress_is [] f } ≡
         starts (writers parts.old.journal.made_with) parts.old.volume.geometry.zmap (quota parts.old.journal.made_with) (parts_now parts.old) number call.now) }
@@ -117,7 +122,7 @@ fn start(alloc: Global, parts: &mut Parts, number: u64, call: &Call) -> Result<F
     replies_are_of_the_tree();
     let (refusal, zones) = asked(&parts.volume, call);
     if let Some(reply) = refusal {
-        return Ok(Found::Answered(Answer::of(alloc, reply)?));
+        return Ok(CallProgress::Answered(Answer::of(alloc, reply)?));
     }
     let kind = kind_of(call);
     if !kind.is_begun() {
@@ -125,7 +130,7 @@ fn start(alloc: Global, parts: &mut Parts, number: u64, call: &Call) -> Result<F
     }
     let file = node_of(&parts.volume, call);
     let begun = Begun::of(alloc, &parts.pages, number, kind, file)?;
-    Ok(Found::Begun(begun))
+    Ok(CallProgress::Begun(begun))
 }
 
 // The step of thread `thread`'s call, which has begun or not, and whose entry would be `number`. Threads are counted from
@@ -138,7 +143,7 @@ pub fn step_call<O: Outlet<Request>>(
     begun: &Option<Begun>,
     call: &Call,
     out: &mut O,
-) -> Result<Found, NoMemory>
+) -> Result<CallProgress, NoMemory>
     requires thread { thread < length parts.old.journal.part.flush.waits }
     requires blocks { parts.old.journal.blocks ≡ parts.old.volume.geometry.zones }
     ensures step { IfOk result (λ f. record { parts = parts_now parts.new; progress = progress_is (list_of begun.now) f } ≡

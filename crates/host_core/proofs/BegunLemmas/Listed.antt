@@ -10,7 +10,7 @@ use Rattle.host_machine.specs.Host.{goal_of, unsent_on}
 use Rattle.host_machine.specs.State.{Begun}
 use Rattle.host_core.specs.begun.Steps.{Gone, waits_durable, waits_for_commit, pursues, with_pages, sends_page, walks, goes_on}
 use Rattle.host_core.specs.begun.code.Told.{went_by, gone_by}
-use Rattle.host_core.specs.declared.begun.waiting.Progress.{Progress}
+use Rattle.host_core.specs.declared.begun.waiting.BegunProgress.{BegunProgress}
 
 -- a page that was found is found by its own birth and index
 pub found_by : (ps : List CachedPage) (f i : ℕ) (p : CachedPage) → page_at ps f i ≡ Some p → page_at ps p.birth p.index ≡ Some p
@@ -26,7 +26,7 @@ wait_is (w ∷ ws) (suc t) d = wait_is ws t d
 
 -- ---- the cases of a step
 
-module _ (q : Bool) (j j2 : JournalPart) (ps : List CachedPage) (t : ℕ) (w : Wait) (b : Begun) (p : Progress) where
+module _ (q : Bool) (j j2 : JournalPart) (ps : List CachedPage) (t : ℕ) (w : Wait) (b : Begun) (p : BegunProgress) where
   needs_none : w.need ≡ None → goes_on q j ps t w b ≡ elim w.target as (λ _. Gone) [ Some k ↦ with_pages ps (waits_for_commit j t w k) | None ↦ walks q j ps t w b ]
   needs_none need = ap (λ (o : Option ℕ). elim o as (λ _. Gone) [
     | Some id ↦ with_pages ps (waits_durable j t w id)

@@ -18,7 +18,7 @@ use Rattle.host_machine.specs.Host.{goal_of, unsent_on}
 use Rattle.host_machine.specs.State.{Begun}
 use Rattle.host_core.specs.begun.Steps.{Gone, Full, Sent, with_pages, pursues, page_out, sends_page, walks}
 use Rattle.host_core.specs.begun.code.Told.{gone_by}
-use Rattle.host_core.specs.declared.begun.waiting.Progress.TheVariants as told
+use Rattle.host_core.specs.declared.begun.waiting.BegunProgress.TheVariants as told
 
 -- it was submitted, so the limit was not reached
 below_limit : (f : FlushPart) → turns.Did ≡ submit_turn false f → at_limit f ≡ false

@@ -7,7 +7,7 @@ use Rattle.host_machine.specs.Model.{Model}
 use Rattle.host_machine.specs.Outcomes as outcomes
 use Rattle.host_machine.specs.State as state
 use Rattle.host_machine.specs.State.{Host, Setup}
-use Rattle.host_core.specs.at_once.Steps.{CallParts, Progress, Answered, Full, Waits, Went}
+use Rattle.host_core.specs.at_once.Steps.{CallParts, PlainProgress, Answered, Full, Waits, Went}
 
 abbrev pub parts_in : {C : Type 0} → Host VolumeNow C Reply → CallParts
 parts_in s = record { journal = s.journal; volume = s.volume; pages = s.pages; owners = s.owners }
@@ -25,7 +25,7 @@ module _ {T C : Type 0} (M : Model T VolumeNow C Reply) (u : Setup) where
   }
 
   -- the host with these parts ends the call, or the call waits
-  abbrev pub after_progress : Host VolumeNow C Reply → ℕ → C → List C → Progress → Stepped VolumeNow C Reply
+  abbrev pub after_progress : Host VolumeNow C Reply → ℕ → C → List C → PlainProgress → Stepped VolumeNow C Reply
   after_progress s t c rest (Answered reply) = end_with M u s t c rest (state.Answered reply)
   after_progress s t c rest Full = end_with M u s t c rest state.SessionFull
   after_progress s t c rest (Waits cause) = record { host = s; step = outcomes.Waiting cause }

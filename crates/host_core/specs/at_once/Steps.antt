@@ -30,14 +30,14 @@ pub record CallParts : Type 0 where
   pub owners : List ℕ
 
 -- how far the call came: it is answered; the session may have no more requests; or it waits
-pub data Progress : Type 0 where
-  Answered : Reply → Progress
-  Full : Progress
-  Waits : Cause → Progress
+pub data PlainProgress : Type 0 where
+  Answered : Reply → PlainProgress
+  Full : PlainProgress
+  Waits : Cause → PlainProgress
 
 pub record Went : Type 0 where
   pub parts : CallParts
-  pub progress : Progress
+  pub progress : PlainProgress
 
 abbrev pub wanting : JournalPart → JournalPart
 wanting j = record j { running = wanted_one j.running }

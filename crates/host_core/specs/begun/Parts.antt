@@ -5,7 +5,7 @@ use Rattle.host_machine.specs.Model.{Model}
 use Rattle.host_machine.specs.Outcomes as outcomes
 use Rattle.host_machine.specs.State as state
 use Rattle.host_machine.specs.State.{Host, Setup, Begun}
-use Rattle.host_core.specs.begun.Steps.{Gone, Progress, Answered, Full, Sent, Waits}
+use Rattle.host_core.specs.begun.Steps.{Gone, BegunProgress, Answered, Full, Sent, Waits}
 
 module _ {T V C R : Type 0} (M : Model T V C R) (u : Setup) where
   abbrev pub with_parts : Host V C R → Gone → Host V C R
@@ -20,7 +20,7 @@ module _ {T V C R : Type 0} (M : Model T V C R) (u : Setup) where
   }
 
   -- the host with these parts ends the call, or keeps how far it came
-  abbrev pub after_progress : Host V C R → ℕ → C → List C → Begun → Progress → Stepped V C R
+  abbrev pub after_progress : Host V C R → ℕ → C → List C → Begun → BegunProgress → Stepped V C R
   after_progress s t c rest b Answered = end_with M u s t c rest (state.Answered M.ok)
   after_progress s t c rest b Full = end_with M u s t c rest state.SessionFull
   after_progress s t c rest b (Sent id list barrier) = record {

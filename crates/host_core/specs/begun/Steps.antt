@@ -21,21 +21,21 @@ use Rattle.host_machine.specs.State.{Begun}
 
 -- how far the call came: it is answered; the session may have no more requests; it sent a page as this request, with the
 -- rest of its list and whether it sent a barrier; or it waits
-pub data Progress : Type 0 where
-  Answered : Progress
-  Full : Progress
-  Sent : ℕ → List (ℕ × ℕ) → Bool → Progress
-  Waits : Cause → Progress
+pub data BegunProgress : Type 0 where
+  Answered : BegunProgress
+  Full : BegunProgress
+  Sent : ℕ → List (ℕ × ℕ) → Bool → BegunProgress
+  Waits : Cause → BegunProgress
 
 -- a step that changes the journal's part alone, and one that changes the pages too
 pub record Went : Type 0 where
   pub part : JournalPart
-  pub progress : Progress
+  pub progress : BegunProgress
 
 pub record Gone : Type 0 where
   pub part : JournalPart
   pub pages : List CachedPage
-  pub progress : Progress
+  pub progress : BegunProgress
 
 -- the actor is otherwise as it was, but for its room
 abbrev pub keeps_all : CommitActor → CommitActor → Type 0

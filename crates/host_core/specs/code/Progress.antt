@@ -24,8 +24,8 @@ use Rattle.host_core.specs.begun.Steps.{Gone, goes_on, listed}
 use Rattle.host_core.specs.begun.Steps as begun
 use Rattle.host_core.specs.at_once.Steps.{CallParts, steps_plainly}
 use Rattle.host_core.specs.at_once.Steps as plain
-use Rattle.host_core.specs.declared.found.Found.{Found}
-use Rattle.host_core.specs.declared.found.Found.TheVariants as found
+use Rattle.host_core.specs.declared.call_progress.CallProgress.{CallProgress}
+use Rattle.host_core.specs.declared.call_progress.CallProgress.TheVariants as found
 use Rattle.host_core.specs.declared.parts.Parts.{Parts}
 
 -- how far the call came: it is over; it began; it sent a page as this request, with the rest of its list and whether it has
@@ -49,7 +49,7 @@ stop_of taken kind =
     else if is_reading kind then None
     else option_map ReadOnly (first_failed taken)
 
-abbrev pub progress_of_begun : begun.Progress → Progress
+abbrev pub progress_of_begun : begun.BegunProgress → Progress
 progress_of_begun begun.Answered = Over (Answered replies.Ok)
 progress_of_begun begun.Full = Over SessionFull
 progress_of_begun (begun.Sent id list barrier) = Sent id list barrier
@@ -61,7 +61,7 @@ went_on p g = record {
   progress = progress_of_begun g.progress;
 }
 
-abbrev pub progress_of_plain : plain.Progress → Progress
+abbrev pub progress_of_plain : plain.PlainProgress → Progress
 progress_of_plain (plain.Answered reply) = Over (Answered reply)
 progress_of_plain plain.Full = Over SessionFull
 progress_of_plain (plain.Waits cause) = Waits cause
@@ -106,7 +106,7 @@ abbrev pub list_of : Option Begun → List (ℕ × ℕ)
 list_of None = []
 list_of (Some b) = b.list
 
-abbrev pub progress_is : List (ℕ × ℕ) → Found → Progress
+abbrev pub progress_is : List (ℕ × ℕ) → CallProgress → Progress
 progress_is list (found.Answered answer) = Over (Answered answer)
 progress_is list found.Done = Over (Answered replies.Ok)
 progress_is list found.Full = Over SessionFull
@@ -116,7 +116,7 @@ progress_is list (found.Begun begun) = Opened begun
 progress_is list (found.Sent id passed barrier) = Sent id (drop passed list) barrier
 progress_is list (found.Waiting cause) = Waits (cause_is cause)
 
-abbrev pub is_queue_full : Found → Bool
+abbrev pub is_queue_full : CallProgress → Bool
 is_queue_full (found.Waiting reasons.QueueFull) = true
 is_queue_full other = false
 

@@ -7,7 +7,7 @@ ghost use Rattle.host_core.specs.at_once.Steps.{wanting, hindered, hinders};
 ghost use Rattle.host_core.specs.at_once.code.Told.{progress_is};
 ghost use Rattle.host_core.specs.at_once.code.Waiting.{waits_below};
 
-use crate::at_once::Progress;
+use crate::at_once::PlainProgress;
 use crate::gates::PlainVolume;
 use blk_base::NoMemory;
 use commit_actor::JournalPart;
@@ -45,7 +45,7 @@ pub fn hinder(
     journal: &mut JournalPart,
     volume: &PlainVolume,
     cause: Cause,
-) -> Result<Progress, NoMemory>
+) -> Result<PlainProgress, NoMemory>
     ensures step { (ps : List CachedPage) (os : List ℕ) → IfOk result (λ p.
         record { parts = record { journal = journal.new.part; volume = volume.now; pages = ps; owners = os }; progress = progress_is p } ≡
         hinders (record { journal = journal.old.part; volume = volume.now; pages = ps; owners = os }) (cause_is cause)) }
@@ -54,10 +54,10 @@ pub fn hinder(
     ensures same { journal.new ≡ with_part journal.old journal.old.spare journal.new.part }
 {
     if journal.flush().at_limit() {
-        return Ok(Progress::Full);
+        return Ok(PlainProgress::Full);
     }
     if wants_closed(journal, volume, cause)? {
         journal.want_closed();
     }
-    Ok(Progress::Waiting(cause))
+    Ok(PlainProgress::Waiting(cause))
 }

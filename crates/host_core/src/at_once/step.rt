@@ -22,7 +22,7 @@ use tree_model::{Call, Reply};
 
 /// How far a plain call came.
 #[derive(Drop, Debug)]
-pub enum Progress {
+pub enum PlainProgress {
     Answered(Reply),
     /// The session may have no more requests.
     Full,
@@ -74,7 +74,7 @@ pub fn step_plainly(
     number: u64,
     call: &Call,
     zones: u32,
-) -> Result<Progress, NoMemory>
+) -> Result<PlainProgress, NoMemory>
     requires refused { refusal volume.old call.now ≡ None }
     requires zones { zones ≡ needed volume.old call.now }
     requires blocks { journal.old.blocks ≡ volume.old.geometry.zones }
@@ -89,5 +89,5 @@ pub fn step_plainly(
         return hinder(journal, volume, cause);
     }
     let reply = perform(alloc, journal, volume, pages, owners, number, call)?;
-    Ok(Progress::Answered(reply))
+    Ok(PlainProgress::Answered(reply))
 }

@@ -8,7 +8,7 @@ ghost use Rattle.host_core.specs.begun.code.Told.{gone_by, found_queue_full};
 
 use crate::begun::Begun;
 use crate::begun::pages::send_next;
-use crate::begun::waiting::{Progress, await_commit, pursue, still_durable};
+use crate::begun::waiting::{BegunProgress, await_commit, pursue, still_durable};
 use blk_base::NoMemory;
 use commit_actor::JournalPart;
 use flush_actor::Wait;
@@ -23,7 +23,7 @@ pub fn go_on<O: Outlet<Request>>(
     thread: u32,
     begun: &Begun,
     out: &mut O,
-) -> Result<Progress, NoMemory>
+) -> Result<BegunProgress, NoMemory>
     requires { thread < length journal.old.part.flush.waits }
     ensures step { IfOk result (λ p. gone_by begun.now.list journal.new.part pages.new.pages p ≡
         goes_on (found_queue_full p) journal.old.part pages.old.pages thread (slice_index_or journal.old.part.flush.waits thread no_wait) begun.now) }

@@ -10,7 +10,7 @@ ghost use Rattle.host_core.specs.begun.Steps.{walks, keeps_all};
 ghost use Rattle.host_core.specs.begun.code.Told.{gone_by, found_queue_full};
 
 use crate::begun::Begun;
-use crate::begun::waiting::Progress;
+use crate::begun::waiting::BegunProgress;
 use commit_actor::JournalPart;
 use host_answers::Cause;
 use order_model::{Kind, Note, Outlet, Request, Turn};
@@ -43,7 +43,7 @@ pub fn send_next<O: Outlet<Request>>(
     pages: &mut Pages,
     begun: &Begun,
     out: &mut O,
-) -> Option<Progress>
+) -> Option<BegunProgress>
     ensures some { IfSome result (λ p. (t : ℕ) (w : Wait) →
         gone_by begun.now.list journal.new.part pages.new.pages p ≡ walks (found_queue_full p) journal.old.part pages.old.pages t w begun.now) }
     ensures none { IsNone result → unsent_on pages.old.pages begun.now.list ≡ None }
@@ -71,13 +71,13 @@ pub fn send_next<O: Outlet<Request>>(
     match journal.submit(kind, true, barrier, note, out) {
         Turn::Did => {
             pages.mark(birth, index, PageState::Firm);
-            Some(Progress::Sent {
+            Some(BegunProgress::Sent {
                 id,
                 passed: at + 1 - begun.passed,
                 barrier: begun.sent_barrier || barrier,
             })
         }
-        Turn::QueueFull => Some(Progress::Waiting(Cause::QueueFull)),
-        _ => Some(Progress::Full),
+        Turn::QueueFull => Some(BegunProgress::Waiting(Cause::QueueFull)),
+        _ => Some(BegunProgress::Full),
     }
 }

@@ -6,7 +6,7 @@ ghost use Rattle.host_machine.specs.Host as machine;
 ghost use Rattle.host_core.specs.begun.Causes.{cause_is};
 ghost use Rattle.host_core.specs.begun.Steps.{waits_durable, waits_for_put, waits_for_commit, pursues, keeps_all, IsGreatGoal};
 ghost use Rattle.host_core.specs.begun.code.Told.{went_by, goal_is, found_queue_full};
-ghost use Rattle.host_core.specs.declared.begun.waiting.Progress.TheVariants as told;
+ghost use Rattle.host_core.specs.declared.begun.waiting.BegunProgress.TheVariants as told;
 
 use crate::begun::Begun;
 use blk_base::NoMemory;
@@ -16,7 +16,7 @@ use host_answers::Cause;
 
 /// How far a begun call came.
 #[derive(Clone, Copy, PartialEq, Eq, Debug)]
-pub enum Progress {
+pub enum BegunProgress {
     /// It is answered: what it asked for holds.
     Answered,
     /// The session may have no more requests.
@@ -57,7 +57,7 @@ fn cause_of(journal: &JournalPart, k: u64) -> Result<Cause, NoMemory>
 }
 
 // It needs this request durable, which was submitted.
-pub fn await_durable(journal: &mut JournalPart, thread: u32, wait: Wait, id: u64) -> Progress
+pub fn await_durable(journal: &mut JournalPart, thread: u32, wait: Wait, id: u64) -> BegunProgress
     requires thread { thread < length journal.old.part.flush.waits }
     requires id { id < length journal.old.part.flush.requests }
     ensures step { (list : List (ℕ × ℕ)) → went_by list journal.new.part result ≡ waits_durable journal.old.part thread wait id }
@@ -67,37 +67,37 @@ pub fn await_durable(journal: &mut JournalPart, thread: u32, wait: Wait, id: u64
 {
     let flush = journal.flush();
     if flush.has_flushed_after(id) {
-        return Progress::Answered;
+        return BegunProgress::Answered;
     }
     if flush.at_limit() && !flush.has_flush_above(id) {
-        return Progress::Full;
+        return BegunProgress::Full;
     }
     let needing = Wait {
         need: Some(id),
         ..wait
     };
     journal.set_wait(thread, needing);
-    Progress::Waiting(Cause::Durable(id))
+    BegunProgress::Waiting(Cause::Durable(id))
 }
 
 // It has needed this request durable before.
-pub fn still_durable(journal: &JournalPart, id: u64) -> Progress
+pub fn still_durable(journal: &JournalPart, id: u64) -> BegunProgress
     ensures step { (list : List (ℕ × ℕ)) (t : ℕ) (w : Wait) → w ≡ slice_index_or journal.now.part.flush.waits t no_wait → w.need ≡ Some id →
         went_by list journal.now.part result ≡ waits_durable journal.now.part t w id }
     ensures waits { found_queue_full result ≡ false }
 {
     let flush = journal.flush();
     if flush.has_flushed_after(id) {
-        return Progress::Answered;
+        return BegunProgress::Answered;
     }
     if flush.at_limit() && !flush.has_flush_above(id) {
-        return Progress::Full;
+        return BegunProgress::Full;
     }
-    Progress::Waiting(Cause::Durable(id))
+    BegunProgress::Waiting(Cause::Durable(id))
 }
 
 // It needs the last put durable.
-fn await_last_put(journal: &mut JournalPart, thread: u32, wait: Wait) -> Progress
+fn await_last_put(journal: &mut JournalPart, thread: u32, wait: Wait) -> BegunProgress
     requires thread { thread < length journal.old.part.flush.waits }
     ensures step { (list : List (ℕ × ℕ)) → went_by list journal.new.part result ≡ waits_for_put journal.old.part thread wait }
     ensures same { keeps_all journal.old journal.new }
@@ -105,7 +105,7 @@ fn await_last_put(journal: &mut JournalPart, thread: u32, wait: Wait) -> Progres
     ensures waits { found_queue_full result ≡ false }
 {
     match journal.flush().last_put() {
-        None => Progress::Answered,
+        None => BegunProgress::Answered,
         Some(id) => await_durable(journal, thread, wait, id),
     }
 }
@@ -116,7 +116,7 @@ pub fn await_commit(
     thread: u32,
     wait: Wait,
     k: u64,
-) -> Result<Progress, NoMemory>
+) -> Result<BegunProgress, NoMemory>
     requires thread { thread < length journal.old.part.flush.waits }
     ensures ok { (list : List (ℕ × ℕ)) → IfOk result (λ p. went_by list journal.new.part p ≡ waits_for_commit journal.old.part thread wait k) }
     ensures err { OnErr result (journal.new ≡ journal.old) }
@@ -127,14 +127,14 @@ pub fn await_commit(
 {
     if journal.is_submitted(k) {
         if !wait.kind.is_durable() {
-            return Ok(Progress::Answered);
+            return Ok(BegunProgress::Answered);
         }
         return Ok(await_last_put(journal, thread, wait));
     }
     if journal.flush().at_limit() {
-        return Ok(Progress::Full);
+        return Ok(BegunProgress::Full);
     }
-    Ok(Progress::Waiting(cause_of(journal, k)?))
+    Ok(BegunProgress::Waiting(cause_of(journal, k)?))
 }
 
 // What it does when no page is left.
@@ -163,7 +163,7 @@ fn fix_target(
     thread: u32,
     wait: Wait,
     k: u64,
-) -> Result<Progress, NoMemory>
+) -> Result<BegunProgress, NoMemory>
     requires thread { thread < length journal.old.part.flush.waits }
     requires need { wait.need ≡ None }
     ensures ok { (list : List (ℕ × ℕ)) → IfOk result (λ p. went_by list journal.new.part p ≡ pursues journal.old.part thread wait (machine.AwaitCommit k)) }
@@ -174,7 +174,7 @@ fn fix_target(
     ensures waits { IfOk result (λ p. found_queue_full p ≡ false) }
 {
     if journal.flush().at_limit() {
-        return Ok(Progress::Full);
+        return Ok(BegunProgress::Full);
     }
     let cause = cause_of(journal, k)?;
     let fixed = Wait {
@@ -186,7 +186,7 @@ fn fix_target(
     if runs {
         journal.want_closed();
     }
-    Ok(Progress::Waiting(cause))
+    Ok(BegunProgress::Waiting(cause))
 }
 
 // No page is left on its list.
@@ -195,7 +195,7 @@ pub fn pursue(
     thread: u32,
     wait: Wait,
     begun: &Begun,
-) -> Result<Progress, NoMemory>
+) -> Result<BegunProgress, NoMemory>
     requires thread { thread < length journal.old.part.flush.waits }
     requires need { wait.need ≡ None }
     ensures ok { (list : List (ℕ × ℕ)) → IfOk result (λ p. went_by list journal.new.part p ≡ pursues journal.old.part thread wait (machine.goal_of journal.old.part begun.now)) }
@@ -206,7 +206,7 @@ pub fn pursue(
     ensures waits { IfOk result (λ p. found_queue_full p ≡ false) }
 {
     match goal_of(journal, begun) {
-        Goal::AnswerOk => Ok(Progress::Answered),
+        Goal::AnswerOk => Ok(BegunProgress::Answered),
         Goal::AwaitLastPut => Ok(await_last_put(journal, thread, wait)),
         Goal::AwaitCommit(k) => fix_target(journal, thread, wait, k),
     }

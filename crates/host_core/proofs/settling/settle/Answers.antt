@@ -13,7 +13,7 @@ use Rattle.host_machine.specs.State.{Host, Begun}
 use Rattle.host_core.specs.Entries.{ending_of}
 use Rattle.host_core.specs.code.Fields.{host_of}
 use Rattle.host_core.specs.code.Progress.{noted, settled, progress_is, list_of, passed_on}
-use Rattle.host_core.specs.declared.found.Found.{Found}
+use Rattle.host_core.specs.declared.call_progress.CallProgress.{CallProgress}
 use Rattle.host_answers.specs.declared.entry.EntryKind.TheVariants as kinds
 use Rattle.host_core.specs.declared.thread.Thread.{Thread}
 use Rattle.host_core.proofs.Endings.{tree_ending}
@@ -24,7 +24,7 @@ use Rattle.host_core.proofs.settling.settle.Goals as goal
 abbrev stepped : outcomes.Step Reply → Host VolumeNow Call Reply → Stepped VolumeNow Call Reply
 stepped x h = record { host = h; step = x }
 
-abbrev settled_by : Host VolumeNow Call Reply → ℕ → Call → List Call → Option Begun → Found → Stepped VolumeNow Call Reply
+abbrev settled_by : Host VolumeNow Call Reply → ℕ → Call → List Call → Option Begun → CallProgress → Stepped VolumeNow Call Reply
 settled_by s at call rest begun found = settled s at call rest begun (progress_is (list_of begun) found)
 
 pub returns-in-Answered-clause-step : goal.returns-in-Answered-clause-step

@@ -3,14 +3,14 @@ use Rattle.journal_ring.specs.running.Closing.{writers}
 use Rattle.journal_ring.specs.running.Open.{quota}
 use Rattle.host_core.specs.at_once.Steps.{CallParts, Went}
 use Rattle.host_core.specs.at_once.code.Told.{progress_is}
-use Rattle.host_core.specs.declared.at_once.step.Progress.{Progress}
+use Rattle.host_core.specs.declared.at_once.step.PlainProgress.{PlainProgress}
 use Rattle.host_core.specs.code.Progress.{parts_now}
 use Rattle.host_core.specs.declared.parts.Parts.{Parts}
 use Rattle.host_core.proofs.Kept.{any_err, plain_kept}
 use Rattle.host_core.proofs.Plainly.{list_still}
 use Rattle.host_core.proofs.stepping.perform.Goals as goal
 
-abbrev went : CallParts → Progress → Went
+abbrev went : CallParts → PlainProgress → Went
 went p x = record { parts = p; progress = progress_is x }
 
 pub returns-in_err-of-in-Answered-clause-err : goal.returns-in_err-of-in-Answered-clause-err

@@ -5,7 +5,7 @@ use host_answers::Cause;
 
 /// How far a call came, before that is noted.
 #[derive(Drop)]
-pub enum Found {
+pub enum CallProgress {
     Answered(Answer),
     /// It was a barrier or sync call, and what it asked for holds.
     Done,
