@@ -145,13 +145,13 @@ def other_barrier(name, blocks):
     return on_large_volume(name, blocks, calls, "round %d" % (3 * blocks + 1000))
 
 
-def directory(name, count):
-    """So many files in one directory, by as many threads as their calls need; no event but these calls."""
-    text = ["volume inodes %d zones %d journal 16384" % (count + 64, 4096 + count // 16)]
-    threads = -(-count // 9999)
+def directory(name, count, emptied=False):
+    """So many files in one directory, which are all taken out again where that is said; by as many threads as their calls need, and no
+    event but these calls."""
+    lines = ["create /d/%d" % file for file in range(count)] + ["unlink /d/%d" % file for file in range(count) if emptied]
+    text, threads = ["volume inodes %d zones %d journal 16384" % (count + 64, 4096 + count // 16)], -(-len(lines) // 9999)
     for thread in range(threads):
-        text += ["thread %d" % (thread + 1), *(["mkdir /d"] if thread == 0 else [])]
-        text += ["create /d/%d" % file for file in range(thread * 9999, min(count, (thread + 1) * 9999))]
+        text += ["thread %d" % (thread + 1), *(["mkdir /d"] if thread == 0 else []), *lines[thread * 9999:(thread + 1) * 9999]]
     calls = ["call %d x %d" % (thread + 1, 10000) for thread in range(threads)]
     return name, "\n".join([*text, "events", *calls]) + "\n"
 
@@ -202,9 +202,11 @@ def cases():
         yield beside("volume-file-%d-beside" % size, size)
     for size in (1000, 4000, 16000, 30000):
         yield synced_file("volume-file-%d-again" % size, size, True)
+    for size in (1000, 4000, 16000, 30000, 60000):
         yield other_barrier("volume-file-%d-other" % size, size)
     for count in (1000, 4000, 16000, 30000):
         yield directory("volume-directory-%d" % count, count)
+        yield directory("volume-directory-%d-emptied" % count, count, True)
 
 
 def main():
