@@ -1,6 +1,7 @@
 //! Images that are made, and mounted with what stands in their journals.
 #![tactic(auto, using(minix_layout::specs::Widths::of_14, minix_layout::specs::Widths::of_30))]
 
+use crate::recovery::put;
 use blk_base::{Block, Image};
 use device_epochs::{DeviceSetup, EpochDevice};
 use journal_blocks::{JournalSuper, Tag, write_commit, write_descriptor, write_super};
@@ -123,13 +124,6 @@ fn refuses_sizes(rt: HostRuntime) {
     for (inodes, zones, journal, fault) in rows {
         let made = make_volume(rt.alloc(), inodes, zones, journal, DEFAULT_WIDTH, false);
         assert!(rt; made.is_err_and(|f| f == fault), "{zones} {journal}");
-    }
-}
-
-// Writes a block that is there.
-fn put(image: &mut Image, at: u32, body: Block) {
-    if at < image.len() {
-        image.put(at, body);
     }
 }
 

@@ -119,7 +119,7 @@ fn log_block(rt: &impl Abort, alloc: Global, part: LogPart, wide: bool) -> Block
 }
 
 // Writes a block that is there.
-fn put(image: &mut Image, at: u32, body: Block) {
+pub(crate) fn put(image: &mut Image, at: u32, body: Block) {
     if at < image.len() {
         image.put(at, body);
     }
@@ -280,14 +280,6 @@ fn revoked(rt: &impl Abort, alloc: Global, s: &JournalSuper) -> Image {
     let mut image = image_of(rt, alloc, s, &REVOKED);
     put(&mut image, 9, Block::fill(3));
     image
-}
-
-fn escaped(rt: &impl Abort, alloc: Global) -> Image {
-    let seven = JournalSuper {
-        sequence: 7,
-        ..FOUR
-    };
-    image_of(rt, alloc, &seven, &ESCAPED)
 }
 
 fn wrapped(rt: &impl Abort, alloc: Global) -> Image {
@@ -468,7 +460,17 @@ fn attempts_lead_to_one_image(rt: HostRuntime) {
     let mut state = 1;
     try_attempts(&rt, alloc, &skipping(&rt, alloc), 3, &mut state);
     try_attempts(&rt, alloc, &revoked(&rt, alloc, &FOUR_WIDE), 7, &mut state);
-    try_attempts(&rt, alloc, &escaped(&rt, alloc), 5, &mut state);
+    let seven = JournalSuper {
+        sequence: 7,
+        ..FOUR
+    };
+    try_attempts(
+        &rt,
+        alloc,
+        &image_of(&rt, alloc, &seven, &ESCAPED),
+        5,
+        &mut state,
+    );
     try_attempts(
         &rt,
         alloc,
