@@ -1,2 +1,4 @@
 mod Asked
+mod Devices
+mod KeptCommands
 pub mod FlashLogLemmas

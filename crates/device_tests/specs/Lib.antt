@@ -1,2 +1,3 @@
 pub mod Asked
+pub mod Writing
 pub mod flash_log

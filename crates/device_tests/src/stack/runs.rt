@@ -55,7 +55,7 @@ fn leaves(
 }
 
 // Request 2 finds the dispatch queue full and is kept. The next dispatch sends it, whatever it picks, and
-// takes no other one.
+// takes no other one: request 1 could go, and stays.
 #[test]
 fn keeps_a_command_that_finds_the_queue_full(rt: HostRuntime) -> Result<(), Fail> {
     let text = b"blocks 3
@@ -73,7 +73,7 @@ accept
 dispatch 0
 dispatch 1
 receive
-dispatch 1
+dispatch 0
 receive x 2
 transfer 0 x 2
 persist 0 x 2
