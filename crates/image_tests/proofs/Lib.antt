@@ -1,2 +1,4 @@
 pub mod Recovering
 pub mod CallRules
+pub mod FirstZones
+pub mod RevokedBlocks

@@ -1,7 +1,8 @@
 //! Laws of calls on trees and volumes, in the words of the tables of calls. Each does nothing when it is called.
-ghost use Rattle.std.specs.Prelude.{◌≡◌, ◌≢◌, ◌⊎◌, ◌<◌, ◌≤◌, ℕ, ◌+◌, ◌-◌, ◌*◌, ◌/◌, ◌%◌, true, List, [], ◌∷◌, length, Some, None, Err, codes};
+ghost use Rattle.std.specs.Prelude.{◌≡◌, ◌≢◌, ◌⊎◌, ◌<◌, ◌≤◌, ℕ, ◌+◌, ◌-◌, ◌*◌, ◌/◌, ◌%◌, true, List, [], ◌∷◌, length, slice_index, Some, None, Err, codes};
 ghost use Rattle.blk_base.specs.Members.{In};
 ghost use Rattle.minix_layout.specs.declared.division.Geometry.{Geometry};
+ghost use Rattle.tree_model.specs.declared.call.Call.{Call};
 ghost use Rattle.tree_model.specs.declared.call.Call.TheVariants as calls;
 ghost use Rattle.tree_model.specs.declared.call.Reply.{Reply};
 ghost use Rattle.tree_model.specs.declared.call.Reply.TheVariants as replies;
@@ -18,11 +19,15 @@ ghost use Rattle.tree_model.specs.CallWords.{StandsAt};
 ghost use Rattle.tree_model.specs.laws.Examples.{small_room, replies_to};
 ghost use Rattle.minix_tables.specs.zones.Zones.{Zones, taken};
 ghost use Rattle.volume_model.specs.declared.placed.Placed.{Placed};
+ghost use Rattle.volume_model.specs.Touched.{IsMeta};
 ghost use Rattle.volume_model.specs.Volume.{Place, indirect, double, inner};
+ghost use Rattle.volume_steps.specs.Called.{FindsRoom};
+ghost use Rattle.volume_steps.specs.Calls.{called};
 ghost use Rattle.volume_steps.specs.Cuts.{cuts_nothing};
+ghost use Rattle.volume_steps.specs.Now.{VolumeNow};
 ghost use Rattle.volume_steps.specs.Zones.{new_number, next_zone, take_zones};
 ghost use Rattle.volume_steps.specs.laws.Sample.{small_volume, after_calls, numbers_of};
-ghost use Rattle.image_tests.specs.Calling.{GoesTo, HasAllSlots, three_names, replacing_session};
+ghost use Rattle.image_tests.specs.Calling.{GoesTo, HasAllSlots, three_names, replacing_session, full_root, first_zones_of};
 
 /// A law, which does nothing when it is called: where several tests would refuse a new name, the first of the table is
 /// told. That the name is there comes before links and slots, and all links before all slots; with both it does not matter
@@ -84,6 +89,21 @@ pub fn blocks_take_zones_before_their_numbers()
         (take_zones own index m).taken.second ≡ next_zone (taken (taken m)) }
     ensures behind_it_alone { (own : Place → ℕ) (index : ℕ) (m : Zones) → 519 ≤ index → own double ≢ 0 → own (inner ((index - 519) / 512)) ≡ 0 →
         (take_zones own index m).taken.second ≡ next_zone (taken m) }
+{}
+
+/// A law, which does nothing when it is called: a new directory takes the lowest zone that is free before the call. So where
+/// its parent needs one for the new name, that gets a later one: in one worked call on a root with all its slots in use.
+pub fn new_directories_take_their_zone_first()
+    ensures own { (v : VolumeNow) (n tx : ℕ) (path : List ℕ) (p : Placed) → FindsRoom v n (calls.Mkdir path) →
+        at_number (called v n tx (calls.Mkdir path)).change.volume.contents.nodes n ≡ Some p → slice_index p.inode.zones 0 ≡ next_zone v.zones }
+    ensures child { first_zones_of (called full_root 2 1 (calls.Mkdir (codes "/d"))).change.volume 2 ≡ Some (6 ∷ 0 ∷ []) }
+    ensures parent { first_zones_of (called full_root 2 1 (calls.Mkdir (codes "/d"))).change.volume 0 ≡ Some (5 ∷ 7 ∷ []) }
+{}
+
+/// A law, which does nothing when it is called: each block that a call revokes was metadata before the call, done or refused.
+/// So the blocks of a file never are, and neither is a block that was free.
+pub fn revoked_blocks_were_metadata()
+    ensures { (v : VolumeNow) (n tx : ℕ) (c : Call) (b : ℕ) → FindsRoom v n c → In b (called v n tx c).change.touched.revoked → IsMeta v.geometry v.contents b }
 {}
 
 /// A law, which does nothing when it is called: a truncate is one that changes nothing exactly where the file has the
