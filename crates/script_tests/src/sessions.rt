@@ -381,6 +381,7 @@ fn tests_first_lines(rt: HostRuntime) {
             Geometry,
         ),
         ("volume inodes 32 zones 6 journal 16384\n", 2, Order),
+        ("volume inodes 65535 zones 65535 journal 128\n", 2, Order),
     ];
     expect_faults(&rt, rt.alloc(), &rows);
 }
@@ -493,8 +494,13 @@ fn keeps_the_most_of_each(rt: HostRuntime) -> Result<(), Fail> {
     assert_eq!(rt; script.programs.len(), 16);
     let more = text(alloc, &[V, threads, "thread 17\n"])?;
     expect_fault(&rt, alloc, &more, 18, Number);
-    let seed = read(&rt, alloc, &text(alloc, &[V, "seed 1000000000\nevents\n"])?)?;
-    assert_eq!(rt; seed.header.seed, 1_000_000_000);
+    for (line, seed) in [
+        ("seed 0\nevents\n", 0),
+        ("seed 1000000000\nevents\n", 1_000_000_000),
+    ] {
+        let script = read(&rt, alloc, &text(alloc, &[V, line])?)?;
+        assert_eq!(rt; script.header.seed, seed, "{line}");
+    }
     let rows = [
         ("events\nrecover", " t0", 1_000, 1_001, "\n"),
         ("thread 1\nbytes /a 0 ", "61", 1_024, 1_025, "\nevents\n"),

@@ -23,7 +23,7 @@ const DEFAULTS: StoreHeader = StoreHeader {
     cut: None,
 };
 
-const FAULTS: [Row; 40] = [
+const FAULTS: [Row; 41] = [
     ("", 1, Order),
     ("store 4", 2, Order),
     ("# none\n\nstore 4\nput a 1\n", 5, Order),
@@ -33,6 +33,8 @@ const FAULTS: [Row; 40] = [
     ("store 04\n", 1, Word),
     ("store 0\n", 1, Number),
     ("store 1001\n", 1, Number),
+    // So many puts may be asked for; then the script only lacks its events.
+    ("store 1000\n", 2, Order),
     ("volume inodes 32 zones 64 journal 128\n", 1, Order),
     ("put a 1\n", 1, Order),
     ("store 4\nstore 4\n", 2, Order),
