@@ -162,9 +162,10 @@ const SCRIPTS: [(&str, &str); 15] = [
         "blocks 1\nput 0 31 ordered\nput 0 32 ordered\nevents\nsubmit x 2\naccept x 2\ndispatch 1\ndispatch 0 x 2\nreceive x 2\ntransfer 0 x 2\npersist 1\npersist 0 x 2\n",
         "steps 3\nblock 0 32 1\n",
     ),
-    // A command that finds the queue full is kept: the next dispatch sends it, and nothing else.
+    // A command that finds the queue full is kept: the next dispatch sends it, and nothing else. Request 1 could go then, and
+    // stays: the dispatch behind that picks a place past the list, and would send a command that was kept.
     (
-        "blocks 3\nqueue 1\nput 0 11 free\nput 1 22 free\nput 2 33 free\nevents\nsubmit\naccept\nsubmit\naccept\nsubmit\naccept\ndispatch 0\ndispatch 1\nreceive\ndispatch 1\nreceive x 2\ntransfer 0 x 2\npersist 0 x 2\n",
+        "blocks 3\nqueue 1\nput 0 11 free\nput 1 22 free\nput 2 33 free\nevents\nsubmit\naccept\nsubmit\naccept\nsubmit\naccept\ndispatch 0\ndispatch 1\nreceive\ndispatch 0\nreceive\ndispatch 1\nreceive\ntransfer 0 x 3\npersist 0 x 3\n",
         "steps 4\nblock 0 11 0\nblock 1 00 -\nblock 2 33 2\n",
     ),
     // A barrier fails: nothing behind it is transferred, and what was transferred before is persisted.

@@ -17,7 +17,7 @@ const LISTS: [(&[&str], u8); 57] = [
     (&["widen"], 4),
     (&["widen", "--raw"], 4),
     (&["check"], 4),
-    // Words that are none, or not built.
+    // Words that are none, or that need threads: `task_tests` has them.
     (&[], 2),
     (&[""], 2),
     (&["rep"], 2),

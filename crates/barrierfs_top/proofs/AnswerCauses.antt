@@ -9,23 +9,23 @@ use Rattle.host_answers.specs.declared.entry.EntryKind.{EntryKind}
 use Rattle.host_answers.specs.declared.entry.EntryKind.TheVariants.{End}
 use Rattle.session_grammar.specs.declared.session_script.SessionScript.{SessionScript}
 use Rattle.session_core.specs.CallEnds.{Ending, Answered, Down, ReadOnly, SessionFull, EndsAt, HasCause}
-use Rattle.session_core.specs.Core.{core, entry_in}
+use Rattle.session_core.specs.Core.{EndState, entry_in}
 use Rattle.barrierfs_top.specs.Promise.{IsPrintedFor}
 
 -- the ends of a session have their causes
-abbrev AreCaused : SessionScript → Type 0
-AreCaused s = (i t : ℕ) (c : Call) (e : Ending Reply) → EndsAt (core s).host.history i t c e → HasCause s (core s) i t c e
+abbrev AreCaused : SessionScript → EndState → Type 0
+AreCaused s end = (i t : ℕ) (c : Call) (e : Ending Reply) → EndsAt end.host.history i t c e → HasCause s end i t c e
 
 -- the same entry, but that this is noted
 abbrev noted_as : Entry → EntryKind → Entry
 noted_as x what = record { thread = x.thread; call = x.call; what = what }
 
-module _ (s : SessionScript) (is : AreCaused s) (i : ℕ) (x : Entry) where
+module _ (s : SessionScript) (end : EndState) (is : AreCaused s end) (i : ℕ) (x : Entry) where
   -- the reply stands in the history as how the call ended
-  by : (e : Ending Reply) → EndsAt (core s).host.history i (entry_in s.programs x).thread (entry_in s.programs x).call e → HasCause s (core s) i (entry_in s.programs x).thread (entry_in s.programs x).call e
+  by : (e : Ending Reply) → EndsAt end.host.history i (entry_in s.programs x).thread (entry_in s.programs x).call e → HasCause s end i (entry_in s.programs x).thread (entry_in s.programs x).call e
   by e there = is i (entry_in s.programs x).thread (entry_in s.programs x).call e there
 
-  reply_caused : (reply : Reply) → slice_get (core s).host.history i ≡ Some (entry_in s.programs (noted_as x (End reply))) → IsPrintedFor s i x reply
+  reply_caused : (reply : Reply) → slice_get end.host.history i ≡ Some (entry_in s.programs (noted_as x (End reply))) → IsPrintedFor s end i x reply
   reply_caused replies.Ok there = by (Answered replies.Ok) there
   reply_caused (replies.Bytes bytes) there = by (Answered (replies.Bytes bytes)) there
   reply_caused (replies.Names names) there = by (Answered (replies.Names names)) there
@@ -47,8 +47,8 @@ module _ (s : SessionScript) (is : AreCaused s) (i : ℕ) (x : Entry) where
   reply_caused replies.SessionFull there = by SessionFull there
 
 -- so it is of the entries that are printed
-pub answers_caused : (s : SessionScript) (history : List Entry) → (core s).host.history ≡ map (entry_in s.programs) history → AreCaused s
-    → (i : ℕ) (x : Entry) (reply : Reply) → slice_get history i ≡ Some x → x.what ≡ End reply → IsPrintedFor s i x reply
-answers_caused s history noted is i x reply here e =
-    reply_caused s is i x reply
+pub answers_caused : (s : SessionScript) (end : EndState) (history : List Entry) → end.host.history ≡ map (entry_in s.programs) history → AreCaused s end
+    → (i : ℕ) (x : Entry) (reply : Reply) → slice_get history i ≡ Some x → x.what ≡ End reply → IsPrintedFor s end i x reply
+answers_caused s end history noted is i x reply here e =
+    reply_caused s end is i x reply
     (ap (λ h. slice_get h i) noted ∙ (slice_get-map_some (entry_in s.programs) history i x here ∙ ap (λ w. Some (entry_in s.programs (noted_as x w))) e))

@@ -22,7 +22,7 @@ use Rattle.barrierfs_top.specs.Sessions.{is_session}
 use Rattle.barrierfs_top.specs.declared.command_line.Sizes.{Sizes}
 use Rattle.barrierfs_top.specs.declared.command_line.Task.{Task}
 use Rattle.barrierfs_top.specs.declared.command_line.Task.TheVariants as tasks
-use Rattle.barrierfs_top.specs.Tasks.{most_of, task_of}
+use Rattle.barrierfs_top.specs.Tasks.{most_of}
 use Rattle.barrierfs_top.specs.Text.{output_bytes}
 use Rattle.barrierfs_top.specs.Top.{Stream, WasRead, Makes, script_fault, image_fault, Ends, IsInputFault, IsUnread, IsMade, IsDone, Does, IsRefused, Cause, ExpectsAs, Expects, EndsAsExpected, EndsAs, IsReplayAs, fault_as}
 use Rattle.barrierfs_top.proofs.OneEnd.{one_end}
@@ -30,48 +30,48 @@ use Rattle.barrierfs_top.proofs.OneEnd.{one_end}
 -- ---- before the first write
 
 -- what a command makes of the input that was read
-pub does_if : (words : List (List ℕ)) (source : Stream) (c : InputTask) (input : List ℕ) (r : Result Printed TopFault) → task_of words ≡ Some (tasks.Read c)
+pub does_if : (asked : Option Task) (source : Stream) (c : InputTask) (input : List ℕ) (r : Result Printed TopFault) → asked ≡ Some (tasks.Read c)
     → Drained source.bytes source.bytes_after input → length input ≤ most_of c → IfOk r (λ p. Makes c input p.report (output_bytes p.output))
-    → IfOk r (λ p. Does words source p.report (output_bytes p.output))
-does_if words source c input (Ok p) asked drained short makes = record {
+    → IfOk r (λ p. Does asked source p.report (output_bytes p.output))
+does_if asked source c input (Ok p) e drained short makes = record {
   task = tasks.Read c;
-  asked = asked;
+  asks = e;
   done = record { input = input; drained = drained; short = short; holds = makes };
 }
-does_if words source c input (Err fault) asked drained short makes = tt
+does_if asked source c input (Err fault) e drained short makes = tt
 
-refused : (words : List (List ℕ)) (source : Stream) (c : InputTask) (input : List ℕ) (fault : TopFault) → task_of words ≡ Some (tasks.Read c)
-    → Drained source.bytes source.bytes_after input → length input ≤ most_of c → Ends c input (Some fault) → IsRefused words source fault
-refused words source c input fault asked drained short is = record {
+refused : (asked : Option Task) (source : Stream) (c : InputTask) (input : List ℕ) (fault : TopFault) → asked ≡ Some (tasks.Read c)
+    → Drained source.bytes source.bytes_after input → length input ≤ most_of c → Ends c input (Some fault) → IsRefused asked source fault
+refused asked source c input fault e drained short is = record {
   command = c;
-  asked = asked;
+  asks = e;
   read = record { input = input; drained = drained; short = short; holds = is };
 }
 
-cause_of : (words : List (List ℕ)) (source : Stream) (c : InputTask) (input : List ℕ) (fault : TopFault) → task_of words ≡ Some (tasks.Read c)
-    → Drained source.bytes source.bytes_after input → length input ≤ most_of c → IsInputFault c input fault → Cause words source fault
-cause_of words source c input (faults.Script line kind) asked drained short is = refused words source c input (faults.Script line kind) asked drained short is
-cause_of words source c input (faults.Image kind block) asked drained short is = refused words source c input (faults.Image kind block) asked drained short is
-cause_of words source c input faults.NoMemory asked drained short is = tt
-cause_of words source c input faults.NoRoom asked drained short is = refused words source c input faults.NoRoom asked drained short is
-cause_of words source c input (faults.Unsound verdict) asked drained short is = refused words source c input (faults.Unsound verdict) asked drained short is
-cause_of words source c input faults.BadWords asked drained short is = absurd is
-cause_of words source c input faults.SourceFault asked drained short is = absurd is
-cause_of words source c input faults.SinkFault asked drained short is = absurd is
-cause_of words source c input faults.TooLong asked drained short is = absurd is
+cause_of : (asked : Option Task) (source : Stream) (c : InputTask) (input : List ℕ) (fault : TopFault) → asked ≡ Some (tasks.Read c)
+    → Drained source.bytes source.bytes_after input → length input ≤ most_of c → IsInputFault c input fault → Cause asked source fault
+cause_of asked source c input (faults.Script line kind) e drained short is = refused asked source c input (faults.Script line kind) e drained short is
+cause_of asked source c input (faults.Image kind block) e drained short is = refused asked source c input (faults.Image kind block) e drained short is
+cause_of asked source c input faults.NoMemory e drained short is = tt
+cause_of asked source c input faults.NoRoom e drained short is = refused asked source c input faults.NoRoom e drained short is
+cause_of asked source c input (faults.Unsound verdict) e drained short is = refused asked source c input (faults.Unsound verdict) e drained short is
+cause_of asked source c input faults.BadWords e drained short is = absurd is
+cause_of asked source c input faults.SourceFault e drained short is = absurd is
+cause_of asked source c input faults.SinkFault e drained short is = absurd is
+cause_of asked source c input faults.TooLong e drained short is = absurd is
 
 -- the fault of the input that was read
-pub cause_if : (words : List (List ℕ)) (source : Stream) (c : InputTask) (input : List ℕ) (r : Result Printed TopFault) → task_of words ≡ Some (tasks.Read c)
-    → Drained source.bytes source.bytes_after input → length input ≤ most_of c → IfErr r (IsInputFault c input) → IfErr r (Cause words source)
-cause_if words source c input (Ok p) asked drained short is = tt
-cause_if words source c input (Err fault) asked drained short is = cause_of words source c input fault asked drained short is
+pub cause_if : (asked : Option Task) (source : Stream) (c : InputTask) (input : List ℕ) (r : Result Printed TopFault) → asked ≡ Some (tasks.Read c)
+    → Drained source.bytes source.bytes_after input → length input ≤ most_of c → IfErr r (IsInputFault c input) → IfErr r (Cause asked source)
+cause_if asked source c input (Ok p) e drained short is = tt
+cause_if asked source c input (Err fault) e drained short is = cause_of asked source c input fault e drained short is
 
 -- the blocks of an image are the whole ones of the bytes that were read
-pub shows_if : (words : List (List ℕ)) (source : Stream) (most : ℕ) (blocks : List (List ℕ)) (r : Result Printed TopFault) → task_of words ≡ Some (tasks.Read commands.Show)
+pub shows_if : (asked : Option Task) (source : Stream) (most : ℕ) (blocks : List (List ℕ)) (r : Result Printed TopFault) → asked ≡ Some (tasks.Read commands.Show)
     → IsImageRead most source.bytes source.bytes_after blocks → most ≡ most_of commands.Show → IfOk r (λ p. (shown blocks ≡ Ok (output_bytes p.output)) × (p.report ≡ None))
-    → IfOk r (λ p. Does words source p.report (output_bytes p.output))
-shows_if words source most blocks r asked read is shows =
-    does_if words source commands.Show read.bytes r asked read.drained (subst (λ (n : ℕ). length read.bytes ≤ n) is read.short)
+    → IfOk r (λ p. Does asked source p.report (output_bytes p.output))
+shows_if asked source most blocks r e read is shows =
+    does_if asked source commands.Show read.bytes r e read.drained (subst (λ (n : ℕ). length read.bytes ≤ n) is read.short)
     (subst (λ (bs : List (List ℕ)). IfOk r (λ p. (shown bs ≡ Ok (output_bytes p.output)) × (p.report ≡ None))) read.whole shows)
 
 mounted_fault : (input : List ℕ) (fault : TopFault) → IsMountedFault (whole_blocks input) fault → IsInputFault commands.Show input fault
@@ -89,18 +89,18 @@ shown_fault : (input : List ℕ) (r : Result Printed TopFault) → IfErr r (IsMo
 shown_fault input (Ok p) is = tt
 shown_fault input (Err fault) is = mounted_fault input fault is
 
-pub show_cause : (words : List (List ℕ)) (source : Stream) (most : ℕ) (blocks : List (List ℕ)) (r : Result Printed TopFault) → task_of words ≡ Some (tasks.Read commands.Show)
-    → IsImageRead most source.bytes source.bytes_after blocks → most ≡ most_of commands.Show → IfErr r (IsMountedFault blocks) → IfErr r (Cause words source)
-show_cause words source most blocks r asked read is faulty =
-    cause_if words source commands.Show read.bytes r asked read.drained (subst (λ (n : ℕ). length read.bytes ≤ n) is read.short)
+pub show_cause : (asked : Option Task) (source : Stream) (most : ℕ) (blocks : List (List ℕ)) (r : Result Printed TopFault) → asked ≡ Some (tasks.Read commands.Show)
+    → IsImageRead most source.bytes source.bytes_after blocks → most ≡ most_of commands.Show → IfErr r (IsMountedFault blocks) → IfErr r (Cause asked source)
+show_cause asked source most blocks r e read is faulty =
+    cause_if asked source commands.Show read.bytes r e read.drained (subst (λ (n : ℕ). length read.bytes ≤ n) is read.short)
     (shown_fault read.bytes r (subst (λ (bs : List (List ℕ)). IfErr r (IsMountedFault bs)) read.whole faulty))
 
 -- the same of an image that is widened
-pub widens_if : (words : List (List ℕ)) (source : Stream) (raw : Bool) (most : ℕ) (blocks : List (List ℕ)) (r : Result Printed TopFault) → task_of words ≡ Some (tasks.Read (commands.Widen raw))
+pub widens_if : (asked : Option Task) (source : Stream) (raw : Bool) (most : ℕ) (blocks : List (List ℕ)) (r : Result Printed TopFault) → asked ≡ Some (tasks.Read (commands.Widen raw))
     → IsImageRead most source.bytes source.bytes_after blocks → most ≡ most_of (commands.Widen raw) → IfOk r (λ p. IsWidened raw blocks (output_bytes p.output) × (p.report ≡ None))
-    → IfOk r (λ p. Does words source p.report (output_bytes p.output))
-widens_if words source raw most blocks r asked read is widens =
-    does_if words source (commands.Widen raw) read.bytes r asked read.drained (subst (λ (n : ℕ). length read.bytes ≤ n) is read.short)
+    → IfOk r (λ p. Does asked source p.report (output_bytes p.output))
+widens_if asked source raw most blocks r e read is widens =
+    does_if asked source (commands.Widen raw) read.bytes r e read.drained (subst (λ (n : ℕ). length read.bytes ≤ n) is read.short)
     (subst (λ (bs : List (List ℕ)). IfOk r (λ p. IsWidened raw bs (output_bytes p.output) × (p.report ≡ None))) read.whole widens)
 
 unwidened_fault : (raw : Bool) (input : List ℕ) (fault : TopFault) → IsWidenFault raw (whole_blocks input) fault → IsInputFault (commands.Widen raw) input fault
@@ -118,18 +118,18 @@ widened_fault : (raw : Bool) (input : List ℕ) (r : Result Printed TopFault) �
 widened_fault raw input (Ok p) is = tt
 widened_fault raw input (Err fault) is = unwidened_fault raw input fault is
 
-pub widen_cause : (words : List (List ℕ)) (source : Stream) (raw : Bool) (most : ℕ) (blocks : List (List ℕ)) (r : Result Printed TopFault) → task_of words ≡ Some (tasks.Read (commands.Widen raw))
-    → IsImageRead most source.bytes source.bytes_after blocks → most ≡ most_of (commands.Widen raw) → IfErr r (IsWidenFault raw blocks) → IfErr r (Cause words source)
-widen_cause words source raw most blocks r asked read is faulty =
-    cause_if words source (commands.Widen raw) read.bytes r asked read.drained (subst (λ (n : ℕ). length read.bytes ≤ n) is read.short)
+pub widen_cause : (asked : Option Task) (source : Stream) (raw : Bool) (most : ℕ) (blocks : List (List ℕ)) (r : Result Printed TopFault) → asked ≡ Some (tasks.Read (commands.Widen raw))
+    → IsImageRead most source.bytes source.bytes_after blocks → most ≡ most_of (commands.Widen raw) → IfErr r (IsWidenFault raw blocks) → IfErr r (Cause asked source)
+widen_cause asked source raw most blocks r e read is faulty =
+    cause_if asked source (commands.Widen raw) read.bytes r e read.drained (subst (λ (n : ℕ). length read.bytes ≤ n) is read.short)
     (widened_fault raw read.bytes r (subst (λ (bs : List (List ℕ)). IfErr r (IsWidenFault raw bs)) read.whole faulty))
 
 -- an image that is checked
-pub checks_if : (words : List (List ℕ)) (source : Stream) (most : ℕ) (blocks : List (List ℕ)) (r : Result Printed TopFault) → task_of words ≡ Some (tasks.Read commands.Check)
+pub checks_if : (asked : Option Task) (source : Stream) (most : ℕ) (blocks : List (List ℕ)) (r : Result Printed TopFault) → asked ≡ Some (tasks.Read commands.Check)
     → IsImageRead most source.bytes source.bytes_after blocks → most ≡ most_of commands.Check
-    → IfOk r (λ p. IsChecked blocks None × (output_bytes p.output ≡ codes "clean\n") × (p.report ≡ None)) → IfOk r (λ p. Does words source p.report (output_bytes p.output))
-checks_if words source most blocks r asked read is checks =
-    does_if words source commands.Check read.bytes r asked read.drained (subst (λ (n : ℕ). length read.bytes ≤ n) is read.short)
+    → IfOk r (λ p. IsChecked blocks None × (output_bytes p.output ≡ codes "clean\n") × (p.report ≡ None)) → IfOk r (λ p. Does asked source p.report (output_bytes p.output))
+checks_if asked source most blocks r e read is checks =
+    does_if asked source commands.Check read.bytes r e read.drained (subst (λ (n : ℕ). length read.bytes ≤ n) is read.short)
     (subst (λ (bs : List (List ℕ)). IfOk r (λ p. IsChecked bs None × (output_bytes p.output ≡ codes "clean\n") × (p.report ≡ None))) read.whole checks)
 
 unchecked_fault : (input : List ℕ) (fault : TopFault) → IsCheckFault (whole_blocks input) fault → IsInputFault commands.Check input fault
@@ -147,28 +147,28 @@ checked_fault : (input : List ℕ) (r : Result Printed TopFault) → IfErr r (Is
 checked_fault input (Ok p) is = tt
 checked_fault input (Err fault) is = unchecked_fault input fault is
 
-pub check_cause : (words : List (List ℕ)) (source : Stream) (most : ℕ) (blocks : List (List ℕ)) (r : Result Printed TopFault) → task_of words ≡ Some (tasks.Read commands.Check)
-    → IsImageRead most source.bytes source.bytes_after blocks → most ≡ most_of commands.Check → IfErr r (IsCheckFault blocks) → IfErr r (Cause words source)
-check_cause words source most blocks r asked read is faulty =
-    cause_if words source commands.Check read.bytes r asked read.drained (subst (λ (n : ℕ). length read.bytes ≤ n) is read.short)
+pub check_cause : (asked : Option Task) (source : Stream) (most : ℕ) (blocks : List (List ℕ)) (r : Result Printed TopFault) → asked ≡ Some (tasks.Read commands.Check)
+    → IsImageRead most source.bytes source.bytes_after blocks → most ≡ most_of commands.Check → IfErr r (IsCheckFault blocks) → IfErr r (Cause asked source)
+check_cause asked source most blocks r e read is faulty =
+    cause_if asked source commands.Check read.bytes r e read.drained (subst (λ (n : ℕ). length read.bytes ≤ n) is read.short)
     (checked_fault read.bytes r (subst (λ (bs : List (List ℕ)). IfErr r (IsCheckFault bs)) read.whole faulty))
 
 -- a workload that was run
-pub ran_if : (words : List (List ℕ)) (source : Stream) (n : ℕ) (r : Result Printed TopFault) → task_of words ≡ Some (tasks.Bulk n) → IsUnread source
-    → IfOk r (λ p. IsWorkload n p.report (output_bytes p.output)) → IfOk r (λ p. Does words source p.report (output_bytes p.output))
-ran_if words source n (Ok p) asked unread ran = record { task = tasks.Bulk n; asked = asked; done = (unread, ran) }
-ran_if words source n (Err fault) asked unread ran = tt
+pub ran_if : (asked : Option Task) (source : Stream) (n : ℕ) (r : Result Printed TopFault) → asked ≡ Some (tasks.Bulk n) → IsUnread source
+    → IfOk r (λ p. IsWorkload n p.report (output_bytes p.output)) → IfOk r (λ p. Does asked source p.report (output_bytes p.output))
+ran_if asked source n (Ok p) e unread ran = record { task = tasks.Bulk n; asks = e; done = (unread, ran) }
+ran_if asked source n (Err fault) e unread ran = tt
 
 -- an image that was made
-pub made_if : (words : List (List ℕ)) (source : Stream) (s : Sizes) (r : Result Printed TopFault) → task_of words ≡ Some (tasks.Make s) → IsUnread source
-    → IfOk r (λ p. IsMade s p.report (output_bytes p.output)) → IfOk r (λ p. Does words source p.report (output_bytes p.output))
-made_if words source s (Ok p) asked unread made = record { task = tasks.Make s; asked = asked; done = (unread, made) }
-made_if words source s (Err fault) asked unread made = tt
+pub made_if : (asked : Option Task) (source : Stream) (s : Sizes) (r : Result Printed TopFault) → asked ≡ Some (tasks.Make s) → IsUnread source
+    → IfOk r (λ p. IsMade s p.report (output_bytes p.output)) → IfOk r (λ p. Does asked source p.report (output_bytes p.output))
+made_if asked source s (Ok p) e unread made = record { task = tasks.Make s; asks = e; done = (unread, made) }
+made_if asked source s (Err fault) e unread made = tt
 
 -- what reads nothing ends early by want of memory alone
-pub memory_cause : (words : List (List ℕ)) (source : Stream) (r : Result Printed TopFault) → IfErr r (λ fault. fault ≡ faults.NoMemory) → IfErr r (Cause words source)
-memory_cause words source (Ok p) memory = tt
-memory_cause words source (Err fault) memory = subst (Cause words source) (sym memory) tt
+pub memory_cause : (asked : Option Task) (source : Stream) (r : Result Printed TopFault) → IfErr r (λ fault. fault ≡ faults.NoMemory) → IfErr r (Cause asked source)
+memory_cause asked source (Ok p) memory = tt
+memory_cause asked source (Err fault) memory = subst (Cause asked source) (sym memory) tt
 
 -- ---- where the input is told and no stream fails
 
@@ -186,11 +186,11 @@ front_read (Some left) (Some rest) text told e d =
     let m = ap length (sym s ∙ d) in
     omega arith
 
-pub one_command : (words : List (List ℕ)) (c d : InputTask) → task_of words ≡ Some (tasks.Read c) → task_of words ≡ Some (tasks.Read d) → c ≡ d
-one_command words c d this that = let e : tasks.Read c ≡ tasks.Read d = same_Some (tasks.Read c) (tasks.Read d) (sym this ∙ that) in cc
+pub one_command : (asked : Option Task) (c d : InputTask) → asked ≡ Some (tasks.Read c) → asked ≡ Some (tasks.Read d) → c ≡ d
+one_command asked c d this that = let e : tasks.Read c ≡ tasks.Read d = same_Some (tasks.Read c) (tasks.Read d) (sym this ∙ that) in cc
 
-no_command : (words : List (List ℕ)) (c : InputTask) → task_of words ≡ None → task_of words ≡ Some (tasks.Read c) → ⊥
-no_command words c none some = none-some (tasks.Read c) (sym none ∙ some)
+no_command : (asked : Option Task) (c : InputTask) → asked ≡ None → asked ≡ Some (tasks.Read c) → ⊥
+no_command asked c none some = none-some (tasks.Read c) (sym none ∙ some)
 
 short_input : (c : InputTask) (text : List ℕ) (end : Option TopFault) → length text ≤ most_of c → Ends c text end → Expects c text end
 short_input c text end le ends =
@@ -218,39 +218,41 @@ replay_fits false input report text is = ap script_fault is.spelled
 no_fault : (c : InputTask) (input : List ℕ) (report : Option RunReport) (text : List ℕ) → Makes c input report text → Ends c input None
 no_fault (commands.Replay true) input report text makes = ap script_fault makes.ran.spelled
 no_fault (commands.Replay false) input report text makes = replay_fits (is_session input) input report text makes
+no_fault (commands.Run true) input report text makes = ap script_fault makes.ran.spelled
+no_fault (commands.Run false) input report text makes = ap script_fault makes.ran.spelled
 no_fault commands.Show input report text makes = ap image_fault makes.0
 no_fault (commands.Widen raw) input report text makes = ap (fault_of raw) makes.0.widened ∙ ap written_fault makes.0.written
 no_fault commands.Check input report text makes = makes.0
 no_fault commands.Kv input report text makes = ap script_fault makes.spelled
 
 -- a command ends well
-pub ends_well : (words : List (List ℕ)) (source : Stream) (report : Option RunReport) (out : List ℕ) → Does words source report out
-    → (c : InputTask) → task_of words ≡ Some (tasks.Read c) → (text : List ℕ) → source.bytes ≡ Some text → EndsAsExpected c text None
-ends_well words source report out does c asked text told =
-    let read = subst (λ (t : Task). IsDone t source report out) (same_Some does.task (tasks.Read c) (sym does.asked ∙ asked)) does.done in
+pub ends_well : (asked : Option Task) (source : Stream) (report : Option RunReport) (out : List ℕ) → Does asked source report out
+    → (c : InputTask) → asked ≡ Some (tasks.Read c) → (text : List ℕ) → source.bytes ≡ Some text → EndsAsExpected c text None
+ends_well asked source report out does c e text told =
+    let read = subst (λ (t : Task). IsDone t source report out) (same_Some does.task (tasks.Read c) (sym does.asks ∙ e)) does.done in
     ends_as c source.bytes source.bytes_after (λ input. Makes c input report out) text None read told (λ input makes. no_fault c input report out makes)
 
-ends_refused : (words : List (List ℕ)) (source : Stream) (fault : TopFault) → IsRefused words source fault → (c : InputTask) → task_of words ≡ Some (tasks.Read c)
+ends_refused : (asked : Option Task) (source : Stream) (fault : TopFault) → IsRefused asked source fault → (c : InputTask) → asked ≡ Some (tasks.Read c)
     → (text : List ℕ) → source.bytes ≡ Some text → EndsAsExpected c text (Some fault)
-ends_refused words source fault is c asked text told =
-    subst (λ (d : InputTask). EndsAsExpected d text (Some fault)) (one_command words is.command c is.asked asked)
+ends_refused asked source fault is c e text told =
+    subst (λ (d : InputTask). EndsAsExpected d text (Some fault)) (one_command asked is.command c is.asks e)
     (ends_as is.command source.bytes source.bytes_after (λ input. Ends is.command input (Some fault)) text (Some fault) is.read told (λ input e. e))
 
 -- what ends before the first write ends as the input says
-pub ends_early : (words : List (List ℕ)) (source : Stream) (fault : TopFault) → Cause words source fault → (c : InputTask) → task_of words ≡ Some (tasks.Read c)
+pub ends_early : (asked : Option Task) (source : Stream) (fault : TopFault) → Cause asked source fault → (c : InputTask) → asked ≡ Some (tasks.Read c)
     → (text : List ℕ) → source.bytes ≡ Some text → (Rose source.faults source.faults_after → ⊥) → EndsAsExpected c text (Some fault)
-ends_early words source faults.BadWords cause c asked text told calm = absurd (no_command words c cause asked)
-ends_early words source (faults.Script line kind) cause c asked text told calm = ends_refused words source (faults.Script line kind) cause c asked text told
-ends_early words source (faults.Image kind block) cause c asked text told calm = ends_refused words source (faults.Image kind block) cause c asked text told
-ends_early words source faults.SourceFault (d, this, rose) c asked text told calm = absurd (calm rose)
-ends_early words source faults.SinkFault cause c asked text told calm = absurd cause
-ends_early words source faults.TooLong (d, this, long) c asked text told calm =
+ends_early asked source faults.BadWords cause c e text told calm = absurd (no_command asked c cause e)
+ends_early asked source (faults.Script line kind) cause c e text told calm = ends_refused asked source (faults.Script line kind) cause c e text told
+ends_early asked source (faults.Image kind block) cause c e text told calm = ends_refused asked source (faults.Image kind block) cause c e text told
+ends_early asked source faults.SourceFault (d, this, rose) c e text told calm = absurd (calm rose)
+ends_early asked source faults.SinkFault cause c e text told calm = absurd cause
+ends_early asked source faults.TooLong (d, this, long) c e text told calm =
     let most = front_read source.bytes source.bytes_after long.input text told long.read in
     let past : most_of d < length text = let l = long.long in omega arith in
-    inl (subst (λ (e : InputTask). Expects e text (Some faults.TooLong)) (one_command words d c this asked) (long_input d text past))
-ends_early words source faults.NoMemory cause c asked text told calm = inr refl
-ends_early words source faults.NoRoom cause c asked text told calm = ends_refused words source faults.NoRoom cause c asked text told
-ends_early words source (faults.Unsound verdict) cause c asked text told calm = ends_refused words source (faults.Unsound verdict) cause c asked text told
+    inl (subst (λ (e : InputTask). Expects e text (Some faults.TooLong)) (one_command asked d c this e) (long_input d text past))
+ends_early asked source faults.NoMemory cause c e text told calm = inr refl
+ends_early asked source faults.NoRoom cause c e text told calm = ends_refused asked source faults.NoRoom cause c e text told
+ends_early asked source (faults.Unsound verdict) cause c e text told calm = ends_refused asked source (faults.Unsound verdict) cause c e text told
 
 -- an end that the input asks for, where that is a fault
 pub ends_with : (c : InputTask) (text : List ℕ) (fault : TopFault) (end : Option TopFault) → Expects c text (Some fault) → EndsAsExpected c text end → EndsAs (Some fault) end

@@ -1,12 +1,15 @@
 pub mod BlockLines
 pub mod Checks
 pub mod Ends
+pub mod Endings
 pub mod OneEnd
 pub mod Workloads
 pub mod Promised
 pub mod Pieces
 pub mod RawImages
 pub mod SessionEnds
+pub mod SessionsTold
 pub mod StoreRuns
+pub mod ThreadsScripts
 pub mod AnswerCauses
 pub mod WordLists

@@ -21,7 +21,7 @@ same_ok a b e = cc
 pub same_err : {A E : Type 0} (a b : E) → ◌≡◌ {A = Result A E} (Err a) (Err b) → a ≡ b
 same_err a b e = cc
 
-not_both : {A E : Type 0} (a : A) (b : E) → ◌≡◌ {A = Result A E} (Ok a) (Err b) → ⊥
+pub not_both : {A E : Type 0} (a : A) (b : E) → ◌≡◌ {A = Result A E} (Ok a) (Err b) → ⊥
 not_both a b e = cc
 
 -- ---- the check of an image
@@ -74,6 +74,7 @@ one_by blocks a b (by_fault f faulty is) (by_fault g faulted also) =
 
 one_of : (c : InputTask) (text : List ℕ) (a b : Option TopFault) → Ends c text a → Ends c text b → a ≡ b
 one_of (commands.Replay raw) text a b this that = sym this ∙ that
+one_of (commands.Run raw) text a b this that = sym this ∙ that
 one_of commands.Show text a b this that = sym this ∙ that
 one_of (commands.Widen raw) text a b this that = sym this ∙ that
 one_of commands.Kv text a b this that = sym this ∙ that

@@ -1,5 +1,5 @@
--- The bytes that `replay` writes are the text of an order-closed medium, or of a session and its tree.
-use Rattle.std.proofs.Common.{◌≡◌, ℕ, ◌+◌, ◌++◌, Bool, true, false, List, [], length, take, inl, inr, ◌≤◌, Option, Some, None, sym, ap, ◌∙◌, subst, arith, append-nil}
+-- The bytes that `replay` and `run` write are the text of an order-closed medium, or of a session and its tree.
+use Rattle.std.proofs.Common.{◌≡◌, ℕ, ◌++◌, Bool, true, false, List, [], length, take, inl, inr, ◌≤◌, Option, Some, None, sym, ap, ◌∙◌, subst, arith, append-nil}
 use Rattle.std.proofs.lemmas.Option.{none-some, same_Some}
 use Rattle.std.proofs.lemmas.List.{append_cancel_left}
 use Rattle.std.specs.Io.KnownBytes.{Appends}
@@ -10,21 +10,18 @@ use Rattle.script_grammar.specs.declared.script.Script.{Script}
 use Rattle.script_grammar.specs.Grammar.{blocks_of}
 use Rattle.stack_core.specs.RequestPath.{submitted_count}
 use Rattle.stack_core.specs.Core.{core}
-use Rattle.session_core.specs.Headline.{medium_of}
-use Rattle.session_core.proofs.CallEnds.{ends_caused}
-use Rattle.session_core.proofs.Headlines.{latest_shown, all_shown}
-use Rattle.session_core.proofs.Seen.{later_survived}
+use Rattle.session_core.specs.Core as sessions
 use Rattle.barrierfs_top.specs.declared.run_report.RunReport.{RunReport}
-use Rattle.barrierfs_top.specs.Sessions.{is_session, figures_of, IsSessionReplay}
+use Rattle.barrierfs_top.specs.Sessions.{is_session, IsSessionReplay}
 use Rattle.barrierfs_top.specs.declared.command_line.InputTask.TheVariants as commands
 use Rattle.barrierfs_top.specs.declared.fault.TopFault.{TopFault}
 use Rattle.barrierfs_top.specs.declared.command_line.Task.{Task}
 use Rattle.barrierfs_top.specs.declared.command_line.Task.TheVariants as tasks
-use Rattle.barrierfs_top.specs.Tasks.{most_of, task_of}
-use Rattle.barrierfs_top.proofs.AnswerCauses.{answers_caused}
-use Rattle.barrierfs_top.proofs.SessionEnds.{text_is, noted_of, stand_of, order_of}
-use Rattle.barrierfs_top.specs.Top.{Stream, IsBlocksReplay, IsReplayAs, IsDone, Does}
-use Rattle.barrierfs_top.specs.Promise.{WentOut, IsWritten, TellsOrderClosed, TellsSession, TellsRun}
+use Rattle.barrierfs_top.specs.Tasks.{most_of}
+use Rattle.barrierfs_top.proofs.SessionsTold.{session_told}
+use Rattle.barrierfs_top.specs.Runs.{IsRunText}
+use Rattle.barrierfs_top.specs.Top.{Stream, WasRead, IsBlocksReplay, IsReplayAs, IsDone, Does}
+use Rattle.barrierfs_top.specs.Promise.{WentOut, IsWritten, TellsOrderClosed, TellsReplay, TellsRun, TellsThreads}
 
 -- where nothing was written, nothing went out
 pub none_out : (taken : Option (List ℕ)) (bytes : List ℕ) → WentOut taken taken bytes → ⊥
@@ -67,49 +64,41 @@ module _ (old new : Option (List ℕ)) (report : Option RunReport) (text bytes :
     written = subst (λ l. IsWritten fault l bytes) is.printed written;
   }
 
-  of_session : IsSessionReplay input report text → TellsSession old new fault bytes
-  of_session is =
-      let s = is.script in
-      let r = is.result in
-      let h = is.ran.headline in
-      let core_is = is.ran.core_is in
-      record {
-        script = s;
-        read = record { input = input; drained = drained; short = short; holds = is.ran.spelled };
-        figures = figures_of r;
-        steps = core_is.report.trace.steps;
-        requests = ap (λ x. length x.journal.flush.requests) core_is.report.host;
-        closed = ap (λ x. length x.cuts) core_is.report.host;
-        history = is.printed.history;
-        noted = noted_of s r is.printed.history core_is.report is.printed.noted;
-        placed = is.printed.placed;
-        caused = answers_caused s is.printed.history (noted_of s r is.printed.history core_is.report is.printed.noted) (ends_caused s _ r h);
-        standings = r.standings.items;
-        stand = stand_of s r core_is.report;
-        tree = h.prefix.tree;
-        written = subst (λ l. IsWritten fault l bytes) (text_is s r text core_is.report h.prefix is.printed) written;
-        medium = medium_of r;
-        surface = core_is.report.image;
-        origins = core_is.report.origins;
-        order = order_of s r core_is.report h.order;
-        recovered = h.prefix.found;
-        transactions = h.transactions;
-        counted = h.counted;
-        alike = h.prefix.alike;
-        files = latest_shown s _ r h;
-        answered = h.answered;
-        barriers = λ e t c ok kind later. all_shown s _ r h (h.answered e t c ok).begun (h.barriers e t c ok kind later);
-        seen = λ e t c ok kind shows. all_shown s _ r h (h.answered e t c ok).begun (h.barriers e t c ok kind (later_survived s _ r h (e + 1) shows));
-        syncs = λ e t c ok kind. all_shown s _ r h (h.answered e t c ok).begun (h.syncs e t c ok kind);
-      }
+  of_session : IsSessionReplay input report text → TellsReplay old new fault bytes
+  of_session is = record {
+    script = is.script;
+    read = record { input = input; drained = drained; short = short; holds = is.ran.spelled };
+    told = session_told is.script (sessions.core is.script) is.result fault text bytes is.ran.core_is.report is.ran.headline is.printed written;
+  }
 
   told_as : (session : Bool) → IsReplayAs session input report text → TellsRun old new fault bytes
   told_as true is = inr (of_session is)
   told_as false is = inl (of_blocks is)
 
 -- the promise, where the words ask for a replay
-pub promised : (words : List (List ℕ)) (source : Stream) (report : Option RunReport) (text bytes : List ℕ) (fault : Option TopFault) → Does words source report text
-    → task_of words ≡ Some (tasks.Read (commands.Replay false)) → IsWritten fault text bytes → TellsRun source.bytes source.bytes_after fault bytes
-promised words source report text bytes fault does asked written =
-    let read = subst (λ (t : Task). IsDone t source report text) (same_Some does.task (tasks.Read (commands.Replay false)) (sym does.asked ∙ asked)) does.done in
+pub promised : (asked : Option Task) (source : Stream) (report : Option RunReport) (text bytes : List ℕ) (fault : Option TopFault) → Does asked source report text
+    → asked ≡ Some (tasks.Read (commands.Replay false)) → IsWritten fault text bytes → TellsRun source.bytes source.bytes_after fault bytes
+promised asked source report text bytes fault does e written =
+    let read = subst (λ (t : Task). IsDone t source report text) (same_Some does.task (tasks.Read (commands.Replay false)) (sym does.asks ∙ e)) does.done in
     told_as source.bytes source.bytes_after report text bytes fault written read.input read.drained read.short (is_session read.input) read.holds
+
+-- the same of a run in threads
+of_threads : (old new : Option (List ℕ)) (report : Option RunReport) (text bytes : List ℕ) (fault : Option TopFault) → IsWritten fault text bytes
+    → WasRead (commands.Run false) old new (λ input. IsRunText input report text) → TellsThreads old new fault bytes
+of_threads old new report text bytes fault written read =
+    let is : IsRunText read.input report text = read.holds in
+    let ran = is.ran.is in
+    record {
+      script = is.script;
+      read = record { input = read.input; drained = read.drained; short = read.short; holds = is.ran.spelled };
+      effects = is.result.effects;
+      end = ran.end;
+      ran = ran.ran;
+      told = session_told is.script ran.end is.result.report fault text bytes ran.report ran.headline is.printed written;
+    }
+
+pub threads_promised : (asked : Option Task) (source : Stream) (report : Option RunReport) (text bytes : List ℕ) (fault : Option TopFault) → Does asked source report text
+    → asked ≡ Some (tasks.Read (commands.Run false)) → IsWritten fault text bytes → TellsThreads source.bytes source.bytes_after fault bytes
+threads_promised asked source report text bytes fault does e written =
+    let read = subst (λ (t : Task). IsDone t source report text) (same_Some does.task (tasks.Read (commands.Run false)) (sym does.asks ∙ e)) does.done in
+    of_threads source.bytes source.bytes_after report text bytes fault written read

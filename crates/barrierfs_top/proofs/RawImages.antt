@@ -1,12 +1,12 @@
 -- The image that recovery left has the tree that is printed.
-use Rattle.std.proofs.Common.{◌≡◌, ℕ, List, Option, Result, Ok, sym, ap, ◌∙◌, subst}
+use Rattle.std.proofs.Common.{◌≡◌, ℕ, List, Option, Result, Ok, sym, ap, ◌∙◌}
 use Rattle.blk_base.specs.Image.{whole_blocks}
 use Rattle.volume_ops.specs.Volume.{VolumeState}
-use Rattle.mount_make.specs.Images.{FaultPlace, mounted, tree_after, recovered_image}
+use Rattle.mount_make.specs.Images.{FaultPlace, mounted, tree_after}
 use Rattle.session_grammar.specs.declared.session_script.SessionScript.{SessionScript}
 use Rattle.session_core.specs.Core.{core}
 use Rattle.barrierfs_top.specs.declared.run_report.RunReport.{RunReport}
-use Rattle.barrierfs_top.specs.Show.{shown, shown_volume, text_after}
+use Rattle.barrierfs_top.specs.Show.{shown, text_after}
 use Rattle.barrierfs_top.specs.Sessions.{IsSessionReplay, IsImageReplay}
 
 same_ok : {A E : Type 0} (a b : A) → ◌≡◌ {A = Result A E} (Ok a) (Ok b) → a ≡ b

@@ -1,5 +1,5 @@
 -- The text that `kv` writes is that of a store's session, and promises what its laws say.
-use Rattle.std.proofs.Common.{◌≡◌, ℕ, ◌<◌, ◌≤◌, List, length, take, Option, Some, None, Result, Ok, Err, slice_get, refl, sym, ap, subst, ◌∙◌, arith, inl, inr}
+use Rattle.std.proofs.Common.{◌≡◌, ℕ, ◌<◌, ◌≤◌, List, length, take, Option, Some, Ok, slice_get, refl, sym, ap, subst, ◌∙◌, arith, inl, inr}
 use Rattle.std.proofs.lemmas.List.{length-take}
 use Rattle.std.proofs.lemmas.Option.{same_Some, slice_get_cases}
 use Rattle.blk_base.specs.Streams.{Drained}
@@ -13,7 +13,6 @@ use Rattle.store_grammar.specs.Made.{volume_script}
 use Rattle.store_grammar.specs.WellFormed.{IsWellFormed}
 use Rattle.store_grammar.proofs.WellFormed.{IsWellFormed-store_of}
 use Rattle.store_core.specs.declared.report.StoreSummary.{StoreSummary}
-use Rattle.store_core.specs.declared.report.StoreReport.{StoreReport}
 use Rattle.store_core.specs.Program.{NoneFull}
 use Rattle.store_core.specs.Runs.{IsHeldAfter, held_on}
 use Rattle.store_core.specs.Stores.{WasPut, acknowledged_in, held_of, puts_in}
@@ -34,7 +33,7 @@ use Rattle.barrierfs_top.specs.Sessions.{figures_of}
 use Rattle.barrierfs_top.specs.Stores.{IsStoreRun}
 use Rattle.barrierfs_top.specs.KeptPuts.{TellsStore}
 use Rattle.barrierfs_top.specs.Promise.{IsWritten}
-use Rattle.barrierfs_top.specs.Tasks.{most_of, task_of}
+use Rattle.barrierfs_top.specs.Tasks.{most_of}
 use Rattle.barrierfs_top.specs.Top.{Stream, IsDone, Does}
 
 -- ---- the text
@@ -113,8 +112,8 @@ module _ (old new : Option (List ℕ)) (report : Option RunReport) (text bytes :
   }
 
 -- the promise, where the words ask for the run of a store
-pub kept : (words : List (List ℕ)) (source : Stream) (report : Option RunReport) (text bytes : List ℕ) (fault : Option TopFault) → Does words source report text
-    → task_of words ≡ Some (tasks.Read commands.Kv) → IsWritten fault text bytes → TellsStore source.bytes source.bytes_after fault bytes
-kept words source report text bytes fault does asked written =
-    let read = subst (λ (t : Task). IsDone t source report text) (same_Some does.task (tasks.Read commands.Kv) (sym does.asked ∙ asked)) does.done in
+pub kept : (asked : Option Task) (source : Stream) (report : Option RunReport) (text bytes : List ℕ) (fault : Option TopFault) → Does asked source report text
+    → asked ≡ Some (tasks.Read commands.Kv) → IsWritten fault text bytes → TellsStore source.bytes source.bytes_after fault bytes
+kept asked source report text bytes fault does e written =
+    let read = subst (λ (t : Task). IsDone t source report text) (same_Some does.task (tasks.Read commands.Kv) (sym does.asks ∙ e)) does.done in
     tells source.bytes source.bytes_after report text bytes fault written read.input read.drained read.short read.holds

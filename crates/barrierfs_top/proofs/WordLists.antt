@@ -39,17 +39,19 @@ required w name o y false e h = absurd (none-some y h)
 named : (w : List ℕ) (c : InputTask) → command_named_by w ≡ Some c → AskFor (w ∷ []) (tasks.Read c)
 named w c h =
     link w (codes "replay") (commands.Replay false) c _ (λ d. AskFor (w ∷ []) (tasks.Read d)) h (λ is. subst (λ v. AskFor (v ∷ []) (tasks.Read (commands.Replay false))) (sym is) AskFor.replay)
+    (λ h. link w (codes "run") (commands.Run false) c _ (λ d. AskFor (w ∷ []) (tasks.Read d)) h (λ is. subst (λ v. AskFor (v ∷ []) (tasks.Read (commands.Run false))) (sym is) AskFor.run)
     (λ h. link w (codes "show") commands.Show c _ (λ d. AskFor (w ∷ []) (tasks.Read d)) h (λ is. subst (λ v. AskFor (v ∷ []) (tasks.Read commands.Show)) (sym is) AskFor.show)
     (λ h. link w (codes "widen") (commands.Widen false) c _ (λ d. AskFor (w ∷ []) (tasks.Read d)) h (λ is. subst (λ v. AskFor (v ∷ []) (tasks.Read (commands.Widen false))) (sym is) AskFor.widen)
     (λ h. link w (codes "check") commands.Check c _ (λ d. AskFor (w ∷ []) (tasks.Read d)) h (λ is. subst (λ v. AskFor (v ∷ []) (tasks.Read commands.Check)) (sym is) AskFor.check)
     (λ h. link w (codes "kv") commands.Kv c _ (λ d. AskFor (w ∷ []) (tasks.Read d)) h (λ is. subst (λ v. AskFor (v ∷ []) (tasks.Read commands.Kv)) (sym is) AskFor.kv)
-    (λ h. absurd (none-some c h))))))
+    (λ h. absurd (none-some c h)))))))
 
 raw_named : (w : List ℕ) (c : InputTask) → raw_named_by w ≡ Some c → AskFor (w ∷ codes "--raw" ∷ []) (tasks.Read c)
 raw_named w c h =
     link w (codes "replay") (commands.Replay true) c _ (λ d. AskFor (w ∷ codes "--raw" ∷ []) (tasks.Read d)) h (λ is. subst (λ v. AskFor (v ∷ codes "--raw" ∷ []) (tasks.Read (commands.Replay true))) (sym is) AskFor.raw_replay)
+    (λ h. link w (codes "run") (commands.Run true) c _ (λ d. AskFor (w ∷ codes "--raw" ∷ []) (tasks.Read d)) h (λ is. subst (λ v. AskFor (v ∷ codes "--raw" ∷ []) (tasks.Read (commands.Run true))) (sym is) AskFor.raw_run)
     (λ h. link w (codes "widen") (commands.Widen true) c _ (λ d. AskFor (w ∷ codes "--raw" ∷ []) (tasks.Read d)) h (λ is. subst (λ v. AskFor (v ∷ codes "--raw" ∷ []) (tasks.Read (commands.Widen true))) (sym is) AskFor.raw_widen)
-    (λ h. absurd (none-some c h)))
+    (λ h. absurd (none-some c h))))
 
 two : (w r : List ℕ) (c : InputTask) → raw_of r (raw_named_by w) ≡ Some c → AskFor (w ∷ r ∷ []) (tasks.Read c)
 two w r c h =
@@ -159,6 +161,8 @@ made_of s false e = absurd (cc)
 pub asked : (words : List (List ℕ)) (t : Task) → AskFor words t → task_of words ≡ Some t
 asked words t AskFor.replay = refl
 asked words t AskFor.raw_replay = refl
+asked words t AskFor.run = refl
+asked words t AskFor.raw_run = refl
 asked words t AskFor.show = refl
 asked words t AskFor.widen = refl
 asked words t AskFor.raw_widen = refl

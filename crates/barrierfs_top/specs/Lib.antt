@@ -6,7 +6,9 @@ pub mod Widen
 pub mod Check
 pub mod Sessions
 pub mod Bulk
+pub mod Runs
 pub mod Stores
 pub mod Top
 pub mod Promise
 pub mod KeptPuts
+pub mod TopEnd

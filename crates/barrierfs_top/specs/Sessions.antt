@@ -9,9 +9,9 @@ use Rattle.host_answers.specs.declared.entry.Entry.{Entry}
 use Rattle.session_grammar.specs.declared.session_script.SessionScript.{SessionScript}
 use Rattle.session_grammar.specs.Grammar.{session_of}
 use Rattle.session_report.specs.ReportText.{Figures, session_lines}
-use Rattle.session_core.specs.Core.{entry_in, ArePlaced}
+use Rattle.session_core.specs.Core.{EndState, entry_in, ArePlaced}
 use Rattle.session_core.specs.Headline.{Headline}
-use Rattle.session_core.specs.Report.{IsCoreReport}
+use Rattle.session_core.specs.Report.{IsCoreReport, IsReportOf}
 use Rattle.session_core.specs.declared.report.SessionReport.{SessionReport}
 use Rattle.barrierfs_top.specs.declared.run_report.RunReport.{RunReport}
 use Rattle.barrierfs_top.specs.declared.run_report.RunReport.TheVariants as reports
@@ -35,6 +35,10 @@ is_session input = begins_session (lines_of input)
 
 abbrev pub figures_of : SessionReport → Figures
 figures_of r = record { steps = r.cut.trace.steps; requests = length r.host.host.journal.flush.requests; closed = length r.host.host.cuts; found = r.found }
+
+-- the report is one of this script, however its session ran
+abbrev pub IsSomeReport : SessionScript → SessionReport → Type 0
+IsSomeReport s r = (end : EndState) × IsReportOf s end r
 
 -- The lines of the session, with what the host noted of its calls, each entry of its thread's next call, and then those of
 -- the tree that was mounted.

@@ -1,5 +1,5 @@
 -- What lists of words ask for.
-use Rattle.std.specs.Prelude.{ℕ, ◌<◌, ◌≤◌, Bool, true, false, ◌&&◌, nat_lt, nat_le, if◌then◌else◌, List, [], ◌∷◌, codes, Option, Some, None}
+use Rattle.std.specs.Prelude.{ℕ, ◌<◌, ◌≤◌, Bool, true, false, ◌&&◌, nat_lt, nat_le, if◌then◌else◌, List, [], ◌∷◌, codes, Option, Some, None, is_some}
 use Rattle.std.specs.Str.{bytes_eq}
 use Rattle.std.specs.Option.{option_map}
 use Rattle.script_grammar.specs.declared.limits.TheConstants.{MOST_SCRIPT_BYTES}
@@ -18,6 +18,7 @@ use Rattle.minix_layout.specs.declared.limits.TheConstants.{LEAST_JOURNAL, MOST_
 abbrev pub command_named_by : List ℕ → Option InputTask
 command_named_by w =
     if bytes_eq w (codes "replay") then Some (commands.Replay false)
+    else if bytes_eq w (codes "run") then Some (commands.Run false)
     else if bytes_eq w (codes "show") then Some commands.Show
     else if bytes_eq w (codes "widen") then Some (commands.Widen false)
     else if bytes_eq w (codes "check") then Some commands.Check
@@ -28,6 +29,7 @@ command_named_by w =
 abbrev pub raw_named_by : List ℕ → Option InputTask
 raw_named_by w =
     if bytes_eq w (codes "replay") then Some (commands.Replay true)
+    else if bytes_eq w (codes "run") then Some (commands.Run true)
     else if bytes_eq w (codes "widen") then Some (commands.Widen true)
     else None
 
@@ -37,6 +39,7 @@ raw_of w command = if bytes_eq w (codes "--raw") then command else None
 -- the most bytes of a script, and of an image
 abbrev pub most_of : InputTask → ℕ
 most_of (commands.Replay raw) = MOST_SCRIPT_BYTES
+most_of (commands.Run raw) = MOST_SCRIPT_BYTES
 most_of commands.Show = MOST_IMAGE_BYTES
 most_of (commands.Widen raw) = MOST_IMAGE_BYTES
 most_of commands.Check = MOST_IMAGE_BYTES
@@ -72,6 +75,25 @@ task_of (w ∷ []) = option_map tasks.Read (command_named_by w)
 task_of (w ∷ second ∷ []) = pair_of w second
 task_of (w ∷ i ∷ z ∷ j ∷ []) = make_of w (sizes_of (numeral i) (numeral z) (numeral j))
 task_of words = None
+
+-- ---- what is done without threads
+
+-- whether a task is a run in threads, and then whether it is for the image that the run leaves
+abbrev pub run_of : Task → Option Bool
+run_of (tasks.Read (commands.Run raw)) = Some raw
+run_of task = None
+
+abbrev pub run_in : Option Task → Option Bool
+run_in None = None
+run_in (Some task) = run_of task
+
+abbrev pub without_run : Option Task → Option Task
+without_run None = None
+without_run (Some task) = if is_some (run_of task) then None else Some task
+
+-- what words ask of `alone`, which runs nothing in threads: to it, those for such a run are bad words
+abbrev pub lone_task_of : List (List ℕ) → Option Task
+lone_task_of words = without_run (task_of words)
 
 -- what holds of a task that words ask for
 abbrev pub CanDo : Task → Type 0

@@ -1,5 +1,5 @@
 -- What the top call did, by its fault.
-use Rattle.std.specs.Prelude.{◌≡◌, ℕ, ◌<◌, ◌≤◌, ◌⊎◌, ◌||◌, Bool, true, false, List, length, Option, Some, None, Result, Ok, Err, is_some, nat_lt, codes}
+use Rattle.std.specs.Prelude.{◌≡◌, ℕ, ◌<◌, ◌≤◌, ◌⊎◌, ◌||◌, Bool, true, false, List, length, Option, Some, None, Result, Ok, Err, nat_lt, codes}
 use Rattle.std.specs.List.{concat}
 use Rattle.std.specs.Io.KnownBytes.{Keeps, Appends, Consumes}
 use Rattle.blk_base.specs.Streams.{Rose, Drained, AppendsFront}
@@ -13,12 +13,13 @@ use Rattle.barrierfs_top.specs.declared.command_line.InputTask.{InputTask}
 use Rattle.barrierfs_top.specs.declared.command_line.Sizes.{Sizes}
 use Rattle.barrierfs_top.specs.declared.command_line.Task.{Task}
 use Rattle.barrierfs_top.specs.declared.command_line.Task.TheVariants as tasks
-use Rattle.barrierfs_top.specs.Tasks.{most_of, task_of}
+use Rattle.barrierfs_top.specs.Tasks.{most_of}
 use Rattle.barrierfs_top.specs.declared.command_line.InputTask.TheVariants as commands
 use Rattle.barrierfs_top.specs.Show.{shown}
 use Rattle.barrierfs_top.specs.Widen.{IsWidened, widen_fault}
 use Rattle.barrierfs_top.specs.Check.{IsChecked}
 use Rattle.barrierfs_top.specs.Bulk.{IsWorkload}
+use Rattle.barrierfs_top.specs.Runs.{IsRun, threads_script_of}
 use Rattle.barrierfs_top.specs.Stores.{IsStoreRun}
 use Rattle.barrierfs_top.specs.declared.fault.TopFault.{TopFault}
 use Rattle.barrierfs_top.specs.declared.fault.TopFault.TheVariants as faults
@@ -100,10 +101,11 @@ IsReplay false input report text = IsReplayAs (is_session input) input report te
 abbrev pub IsMade : Sizes → Option RunReport → List ℕ → Type 0
 IsMade s report bytes = (bytes ≡ concat (made_image (geometry_made s.inodes s.zones DEFAULT_WIDTH) s.journal false)) × (report ≡ None)
 
--- `show`: the text is that of the tree that the image has once its journal was recovered; `widen`: it is that of the widened
+-- `replay` and `run`: see above; `show`: the text is that of the tree that the image has once its journal was recovered; `widen`: it is that of the widened
 -- image, or the bytes are those of this image; `check`: the image is clean, and the text says so; `kv`: it is that of a store's session
 abbrev pub Makes : InputTask → List ℕ → Option RunReport → List ℕ → Type 0
 Makes (commands.Replay raw) input report text = IsReplay raw input report text
+Makes (commands.Run raw) input report text = IsRun raw input report text
 Makes commands.Show input report text = (shown (whole_blocks input) ≡ Ok text) × (report ≡ None)
 Makes (commands.Widen raw) input report text = IsWidened raw (whole_blocks input) text × (report ≡ None)
 Makes commands.Check input report text = IsChecked (whole_blocks input) None × (text ≡ codes "clean\n") × (report ≡ None)
@@ -127,6 +129,7 @@ image_fault (Err (kind, block)) = Some (faults.Image kind block)
 -- A command ends so whose input this is: without a fault, or by the one that the input has.
 abbrev pub Ends : InputTask → List ℕ → Option TopFault → Type 0
 Ends (commands.Replay raw) input end = fault_as (raw || is_session input) input ≡ end
+Ends (commands.Run raw) input end = script_fault (threads_script_of input) ≡ end
 Ends commands.Show input end = image_fault (shown (whole_blocks input)) ≡ end
 Ends (commands.Widen raw) input end = widen_fault raw (whole_blocks input) ≡ end
 Ends commands.Check input end = IsChecked (whole_blocks input) end
@@ -153,7 +156,13 @@ IsBlocksFault input fault = IsFaultAs false input fault
 abbrev pub IsSessionFault : List ℕ → TopFault → Type 0
 IsSessionFault input fault = IsFaultAs true input fault
 
--- ---- what the top call did
+-- the same of a script for threads
+abbrev pub IsThreadsFault : List ℕ → TopFault → Type 0
+IsThreadsFault input (faults.Script line kind) = script_fault (threads_script_of input) ≡ Some (faults.Script line kind)
+IsThreadsFault input faults.NoMemory = Unit {0}
+IsThreadsFault input other = ⊥
+
+-- ---- what the top call did, where this task is asked, or where none is and the words are bad
 
 -- nothing was read
 abbrev pub IsUnread : Stream → Type 0
@@ -165,45 +174,45 @@ IsDone (tasks.Read c) source report text = WasRead c source.bytes source.bytes_a
 IsDone (tasks.Make s) source report text = IsUnread source × IsMade s report text
 IsDone (tasks.Bulk n) source report text = IsUnread source × IsWorkload n report text
 
--- the words ask for a task, and this is done
-pub record Does (words : List (List ℕ)) (source : Stream) (report : Option RunReport) (text : List ℕ) : Type 0 where
+-- a task is asked, and this is done
+pub record Does (asked : Option Task) (source : Stream) (report : Option RunReport) (text : List ℕ) : Type 0 where
   pub task : Task
-  pub asked : task_of words ≡ Some task
+  pub asks : asked ≡ Some task
   pub done : IsDone task source report text
 
--- the words are a command, and this is the fault of the source's bytes
-pub record IsRefused (words : List (List ℕ)) (source : Stream) (fault : TopFault) : Type 0 where
+-- a command is asked, and this is the fault of the source's bytes
+pub record IsRefused (asked : Option Task) (source : Stream) (fault : TopFault) : Type 0 where
   pub command : InputTask
-  pub asked : task_of words ≡ Some (tasks.Read command)
+  pub asks : asked ≡ Some (tasks.Read command)
   pub read : WasRead command source.bytes source.bytes_after (λ input. Ends command input (Some fault))
 
 -- the cause of a fault for which nothing is written; want of memory is free
-abbrev pub Cause : List (List ℕ) → Stream → TopFault → Type 0
-Cause words source faults.BadWords = task_of words ≡ None
-Cause words source (faults.Script line kind) = IsRefused words source (faults.Script line kind)
-Cause words source (faults.Image kind block) = IsRefused words source (faults.Image kind block)
-Cause words source faults.SourceFault = (c : InputTask) × (task_of words ≡ Some (tasks.Read c)) × Rose source.faults source.faults_after
-Cause words source faults.SinkFault = ⊥
-Cause words source faults.TooLong = (c : InputTask) × (task_of words ≡ Some (tasks.Read c)) × IsTooLong c source.bytes source.bytes_after
-Cause words source faults.NoMemory = Unit {0}
-Cause words source faults.NoRoom = IsRefused words source faults.NoRoom
-Cause words source (faults.Unsound verdict) = IsRefused words source (faults.Unsound verdict)
+abbrev pub Cause : Option Task → Stream → TopFault → Type 0
+Cause asked source faults.BadWords = asked ≡ None
+Cause asked source (faults.Script line kind) = IsRefused asked source (faults.Script line kind)
+Cause asked source (faults.Image kind block) = IsRefused asked source (faults.Image kind block)
+Cause asked source faults.SourceFault = (c : InputTask) × (asked ≡ Some (tasks.Read c)) × Rose source.faults source.faults_after
+Cause asked source faults.SinkFault = ⊥
+Cause asked source faults.TooLong = (c : InputTask) × (asked ≡ Some (tasks.Read c)) × IsTooLong c source.bytes source.bytes_after
+Cause asked source faults.NoMemory = Unit {0}
+Cause asked source faults.NoRoom = IsRefused asked source faults.NoRoom
+Cause asked source (faults.Unsound verdict) = IsRefused asked source (faults.Unsound verdict)
 
 -- what was done to source and sink, by the fault
-abbrev pub Did : List (List ℕ) → Stream → Stream → Option RunReport → Option TopFault → Type 0
+abbrev pub Did : Option Task → Stream → Stream → Option RunReport → Option TopFault → Type 0
 -- the sink took exactly what is to be written
-Did words source sink report None = (text : List ℕ) × Does words source report text × Appends sink.bytes sink.bytes_after text
+Did asked source sink report None = (text : List ℕ) × Does asked source report text × Appends sink.bytes sink.bytes_after text
 -- a front of it went out
-Did words source sink report (Some faults.SinkFault) =
-    (text : List ℕ) × Does words source report text × AppendsFront sink.bytes sink.bytes_after text × Rose sink.faults sink.faults_after
+Did asked source sink report (Some faults.SinkFault) =
+    (text : List ℕ) × Does asked source report text × AppendsFront sink.bytes sink.bytes_after text × Rose sink.faults sink.faults_after
 -- nothing was written
-Did words source sink report (Some fault) = Cause words source fault × (report ≡ None) × Keeps sink.bytes sink.bytes_after
+Did asked source sink report (Some fault) = Cause asked source fault × (report ≡ None) × Keeps sink.bytes sink.bytes_after
 
--- a call did that with some report, and this tells whether it had one
-pub record DidSome (words : List (List ℕ)) (source sink : Stream) (reported : Bool) (fault : Option TopFault) : Type 0 where
-  pub report : Option RunReport
-  pub did : Did words source sink report fault
-  pub told : reported ≡ is_some report
+-- the sink took exactly this, or a front of it and failed
+abbrev pub WasWritten : List ℕ → Stream → Option TopFault → Type 0
+WasWritten text sink None = Appends sink.bytes sink.bytes_after text
+WasWritten text sink (Some faults.SinkFault) = AppendsFront sink.bytes sink.bytes_after text × Rose sink.faults sink.faults_after
+WasWritten text sink (Some fault) = ⊥
 
 -- ---- how a call ends where the input is told and neither stream fails
 

@@ -22,6 +22,8 @@ pub record AreSizes (s : Sizes) : Type 0 where
 pub data AskFor : List (List ℕ) → Task → Type 0 where
   replay : AskFor (codes "replay" ∷ []) (tasks.Read (commands.Replay false))
   raw_replay : AskFor (codes "replay" ∷ codes "--raw" ∷ []) (tasks.Read (commands.Replay true))
+  run : AskFor (codes "run" ∷ []) (tasks.Read (commands.Run false))
+  raw_run : AskFor (codes "run" ∷ codes "--raw" ∷ []) (tasks.Read (commands.Run true))
   show : AskFor (codes "show" ∷ []) (tasks.Read commands.Show)
   widen : AskFor (codes "widen" ∷ []) (tasks.Read (commands.Widen false))
   raw_widen : AskFor (codes "widen" ∷ codes "--raw" ∷ []) (tasks.Read (commands.Widen true))

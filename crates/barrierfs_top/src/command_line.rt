@@ -1,7 +1,7 @@
 //! What the words of the command line ask for.
-ghost use Rattle.std.specs.Prelude.{◌≡◌, ◌++◌, ◌∷◌, [], Some, IfSome, OnOk, OnErr};
+ghost use Rattle.std.specs.Prelude.{◌≡◌, ◌++◌, ◌∷◌, [], Some, None, IfSome, OnOk, OnErr};
 ghost use Rattle.script_words.specs.Spelling.{numeral};
-ghost use Rattle.barrierfs_top.specs.Tasks.{command_named_by, most_of, pair_of, raw_named_by, raw_of, sizes_of, task_of, workload_of, CanDo};
+ghost use Rattle.barrierfs_top.specs.Tasks.{command_named_by, lone_task_of, most_of, pair_of, raw_named_by, raw_of, run_in, run_of, sizes_of, task_of, workload_of, CanDo};
 
 use blk_base::NoMemory;
 use minix_layout::{DEFAULT_WIDTH, Geometry, LEAST_JOURNAL, MOST_JOURNAL, MOST_NUMBERED};
@@ -16,6 +16,8 @@ use std::marker::Model;
 pub enum InputTask {
     /// Runs a script and prints its report, or of a volume script writes the image that recovery left.
     Replay { raw: bool },
+    /// Runs a volume script in threads, and prints its report or writes the image that recovery left.
+    Run { raw: bool },
     /// Prints the tree of an image.
     Show,
     /// Gives an image names of 30 bytes, and prints the tree of the widened image, or writes its bytes.
@@ -32,7 +34,8 @@ impl InputTask {
         ensures { result ≡ most_of self }
     {
         match self {
-            InputTask::Replay { .. } | InputTask::Kv => MOST_SCRIPT_BYTES as u64,
+            InputTask::Replay { .. } | InputTask::Run { .. } | InputTask::Kv =>
+                MOST_SCRIPT_BYTES as u64,
             InputTask::Show | InputTask::Widen { .. } | InputTask::Check => MOST_IMAGE_BYTES,
         }
     }
@@ -55,6 +58,18 @@ pub enum Task {
     Make(Sizes),
     /// Runs the workload that is generated from a number, and prints its summary. Nothing is read.
     Bulk(u32),
+}
+
+impl Task {
+    /// Whether it is a run in threads, and then whether it is for the image that the run leaves.
+    pub fn run(self) -> Option<bool>
+        ensures { result ≡ run_of self }
+    {
+        match self {
+            Task::Read(InputTask::Run { raw }) => Some(raw),
+            _ => None,
+        }
+    }
 }
 
 /// The most bytes of an image.
@@ -112,6 +127,27 @@ impl Words {
             _ => None,
         }
     }
+
+    /// Where the words ask for a run in threads: whether for the image that it leaves.
+    pub fn run(&self) -> Option<bool>
+        ensures { result ≡ run_in (task_of self.now) }
+    {
+        let task = self.task()?;
+        task.run()
+    }
+
+    /// What is to be done, where the words ask for something that needs no threads.
+    pub fn lone_task(&self) -> Option<Task>
+        ensures value { result ≡ lone_task_of self.now }
+        ensures can { IfSome result (λ t. CanDo t) }
+        ensures lone { IfSome result (λ t. run_of t ≡ None) }
+    {
+        let task = self.task()?;
+        match task.run() {
+            None => Some(task),
+            Some(_) => None,
+        }
+    }
 }
 
 fn command_named(word: &str) -> Option<InputTask>
@@ -119,6 +155,7 @@ fn command_named(word: &str) -> Option<InputTask>
 {
     match word {
         "replay" => Some(InputTask::Replay { raw: false }),
+        "run" => Some(InputTask::Run { raw: false }),
         "show" => Some(InputTask::Show),
         "widen" => Some(InputTask::Widen { raw: false }),
         "check" => Some(InputTask::Check),
@@ -158,6 +195,7 @@ fn raw_named(word: &str, raw: &str) -> Option<InputTask>
     }
     match word {
         "replay" => Some(InputTask::Replay { raw: true }),
+        "run" => Some(InputTask::Run { raw: true }),
         "widen" => Some(InputTask::Widen { raw: true }),
         _ => None,
     }

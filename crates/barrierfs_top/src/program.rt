@@ -1,23 +1,22 @@
 //! The words and the streams that a process has, and how it ends.
-ghost use Rattle.std.specs.Prelude.{◌≡◌, ◌⊎◌, ℕ, false, List, Option, Some, None, IfErr};
+ghost use Rattle.std.specs.Prelude.{◌≡◌, ◌⊎◌, Option, is_some, IfErr};
 ghost use Rattle.std.specs.Process.{exit_status};
-ghost use Rattle.blk_base.specs.Streams.{Rose};
-ghost use Rattle.barrierfs_top.specs.Promise.{WentOut, TellsRun};
-ghost use Rattle.barrierfs_top.specs.KeptPuts.{TellsStore};
-ghost use Rattle.barrierfs_top.specs.Tasks.{task_of};
-ghost use Rattle.barrierfs_top.specs.Top.{status_of, stream_of, IsUnread, DidSome, Expects, EndsAs, EndsAsExpected};
-ghost use Rattle.barrierfs_top.specs.declared.command_line.InputTask.{InputTask};
-ghost use Rattle.barrierfs_top.specs.declared.command_line.Sizes.{Sizes};
-ghost use Rattle.barrierfs_top.specs.declared.command_line.Task.{Task};
+ghost use Rattle.barrierfs_top.specs.Tasks.{lone_task_of, task_of};
+ghost use Rattle.barrierfs_top.specs.Top.{status_of, stream_of};
+ghost use Rattle.barrierfs_top.specs.TopEnd.{EndsSome};
 ghost use Rattle.barrierfs_top.specs.declared.fault.TopFault.{TopFault};
 
 use crate::command_line::Words;
 use crate::fault::TopFault;
+use crate::threads::{OpenGate, barrierfs};
 use crate::top::{Outcome, alone, status};
 use blk_base::{Sink, Source, StdSink, StdSource};
+use session_threads::sides::Gate;
 use std::alloc::Global;
 use std::process::ExitCode;
 use std::rt::Env;
+use std::sync::Wait;
+use std::thread::Threads;
 use std::{env, io};
 
 /// The words of the command line, without the program's name. One that is not UTF-8 makes them bad words.
@@ -49,33 +48,19 @@ pub struct Ended {
     pub reported: bool,
 }
 
-/// Does what `alone` does, and lets its report go.
-pub fn run_words<R: Source, W: Sink>(
-    alloc: Global,
-    words: &Words,
-    src: &mut R,
-    out: &mut W,
-) -> Ended
-    ensures promise { (bytes : List ℕ) → task_of words.now ≡ Some (Task.Read (InputTask.Replay false)) → WentOut (W.taken out.old) (W.taken out.new) bytes → TellsRun (R.left src.old) (R.left src.new) result.fault bytes }
-    ensures kept_puts { (bytes : List ℕ) → task_of words.now ≡ Some (Task.Read InputTask.Kv) → WentOut (W.taken out.old) (W.taken out.new) bytes → TellsStore (R.left src.old) (R.left src.new) result.fault bytes }
-    ensures status { result.status ≡ status_of result.fault }
-    ensures did { DidSome words.now (stream_of R.left R.faults src.old src.new) (stream_of W.taken W.faults out.old out.new) result.reported result.fault }
-    ensures words { task_of words.now ≡ None → result.fault ≡ Some TopFault.BadWords }
-    ensures unread { ((c : InputTask) → task_of words.now ≡ Some (Task.Read c) → ⊥) → IsUnread (stream_of R.left R.faults src.old src.new) }
-    ensures complete { (c : InputTask) → task_of words.now ≡ Some (Task.Read c) → (text : List ℕ) → R.left src.old ≡ Some text → ¬ Rose (R.faults src.old) (R.faults src.new) → ¬ Rose (W.faults out.old) (W.faults out.new) → EndsAsExpected c text result.fault }
-    ensures refused { (c : InputTask) → task_of words.now ≡ Some (Task.Read c) → (text : List ℕ) → R.left src.old ≡ Some text → ¬ Rose (R.faults src.old) (R.faults src.new) → (fault : TopFault) → Expects c text (Some fault) → EndsAs (Some fault) result.fault }
-    ensures made { (s : Sizes) → task_of words.now ≡ Some (Task.Make s) → ¬ Rose (W.faults out.old) (W.faults out.new) → EndsAs None result.fault }
-    ensures generated { (n : ℕ) → task_of words.now ≡ Some (Task.Bulk n) → ¬ Rose (W.faults out.old) (W.faults out.new) → EndsAs None result.fault }
-    ensures source_steady { (result.fault ≡ Some TopFault.SourceFault → ⊥) → R.faults src.new ≡ R.faults src.old }
-    ensures sink_steady { (result.fault ≡ Some TopFault.SinkFault → ⊥) → W.faults out.new ≡ W.faults out.old }
+// How the program ends, where the top call ended so. The report is let go by a call: a drop that is written out in place is dear to
+// prove.
+fn let_go(outcome: Outcome) -> Ended
+    ensures status { result.status ≡ outcome.status }
+    ensures fault { result.fault ≡ outcome.fault }
+    ensures reported { result.reported ≡ is_some outcome.report }
 {
     let Outcome {
         status,
         fault,
         report,
-    } = alone(alloc, words, src, out);
+    } = outcome;
     let reported = report.is_some();
-    // By a call: a drop that is written out in place is dear to prove.
     drop(report);
     Ended {
         status,
@@ -84,9 +69,39 @@ pub fn run_words<R: Source, W: Sink>(
     }
 }
 
-/// All that `main` does: hands the words and the standard streams to `run_words`, prints the fault on standard error where
+/// Does what `alone` does, and lets its report go.
+pub fn run_words<R: Source, W: Sink>(
+    alloc: Global,
+    words: &Words,
+    src: &mut R,
+    out: &mut W,
+) -> Ended
+    ensures status { result.status ≡ status_of result.fault }
+    ensures ends { EndsSome (lone_task_of words.now) (stream_of R.left R.faults src.old src.new) (stream_of W.taken W.faults out.old out.new) result.reported result.fault }
+{
+    let_go(alone(alloc, words, src, out))
+}
+
+/// Does what `barrierfs` does, and lets its report go.
+pub fn do_words<H: Threads + Wait + Sync, R: Source, W: Sink, G: Gate + Sync>(
+    rt: &H,
+    alloc: Global,
+    words: &Words,
+    src: &mut R,
+    out: &mut W,
+    gate: &G,
+) -> Ended
+    ensures status { result.status ≡ status_of result.fault }
+    ensures ends { EndsSome (task_of words.now) (stream_of R.left R.faults src.old src.new) (stream_of W.taken W.faults out.old out.new) result.reported result.fault }
+{
+    let_go(barrierfs(rt, alloc, words, src, out, gate))
+}
+
+/// All that `main` does: hands the words and the standard streams to `barrierfs`, prints the fault on standard error where
 /// there is one, and answers the status.
-pub fn run_program(rt: &(impl Env + Input + Print + Eprint + AllocGlobal)) -> ExitCode
+pub fn run_program<H: Threads + Wait + Sync + Env + Input + Print + Eprint + AllocGlobal>(
+    rt: &H,
+) -> ExitCode
     ensures { (fault : Option TopFault) × (exit_status result ≡ status_of fault) }
 {
     let words = match given_words(rt) {
@@ -98,7 +113,7 @@ pub fn run_program(rt: &(impl Env + Input + Print + Eprint + AllocGlobal)) -> Ex
     };
     let mut source = StdSource::new(rt.reader());
     let mut sink = StdSink::new(io::writer(rt));
-    let ended = run_words(rt.alloc(), &words, &mut source, &mut sink);
+    let ended = do_words(rt, rt.alloc(), &words, &mut source, &mut sink, &OpenGate);
     if let Some(fault) = ended.fault {
         let _ = eprintln!(rt; "barrierfs: {fault}");
     }

@@ -7,8 +7,7 @@ ghost use Rattle.script_words.specs.Spelling.{words_of};
 ghost use Rattle.script_grammar.specs.declared.limits.TheConstants.{MOST_SCRIPT_BYTES};
 ghost use Rattle.session_grammar.specs.WellFormed.{IsWellFormed};
 ghost use Rattle.session_core.specs.Core.{ArePlaced, entry_in};
-ghost use Rattle.session_core.specs.Report.{IsCoreReport};
-ghost use Rattle.barrierfs_top.specs.Sessions.{begins_session, is_session, names_volume, IsSessionText, IsSessionOf, IsSessionReplay, IsImageReplay, figures_of};
+ghost use Rattle.barrierfs_top.specs.Sessions.{begins_session, is_session, names_volume, IsSessionText, IsSomeReport, IsSessionOf, IsSessionReplay, IsImageReplay, figures_of};
 ghost use Rattle.barrierfs_top.specs.Top.{IsSessionFault};
 ghost use Rattle.barrierfs_top.specs.Text.{output_bytes};
 
@@ -58,7 +57,7 @@ pub fn is_session(alloc: Global, bytes: &[u8]) -> Result<bool, NoMemory>
 
 /// What the host noted of the calls, whose programs are those of the script. The script is for the clauses alone.
 pub fn noted<'a>(report: &'a SessionReport, _script: &SessionScript) -> &'a [Entry]
-    requires { IsCoreReport _script.now report.now }
+    requires { IsSomeReport _script.now report.now }
     ensures noted { report.now.host.host.history ≡ map (entry_in report.now.host.programs) result.now }
     ensures placed { ArePlaced _script.now.programs result.now }
 {
@@ -77,14 +76,14 @@ pub fn figures_of(report: &SessionReport) -> Figures
     }
 }
 
-// The text of a session's report.
-fn session_text(
+/// The text of a session's report.
+pub fn session_text(
     alloc: Global,
     script: &SessionScript,
     report: &SessionReport,
 ) -> Result<String, NoMemory>
     requires script { IsWellFormed script.now }
-    requires report { IsCoreReport script.now report.now }
+    requires report { IsSomeReport script.now report.now }
     ensures { IfOk result (λ text. IsSessionText script.now report.now (string_bytes text)) }
 {
     lines_of_scripts_are_ascii();
@@ -157,8 +156,8 @@ pub fn run_session_image(alloc: Global, bytes: &[u8]) -> Result<Printed, TopFaul
     }
 }
 
-// The image that recovery left.
-fn left_image(alloc: Global, report: &SessionReport) -> Result<Image, NoMemory>
+/// The image that recovery left.
+pub fn left_image(alloc: Global, report: &SessionReport) -> Result<Image, NoMemory>
     ensures image { IfOk result (λ image. image ≡ report.now.image) }
     ensures whole { IfOk result (λ image. whole_blocks (concat image) ≡ image) }
 {

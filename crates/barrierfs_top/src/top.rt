@@ -1,11 +1,9 @@
 //! The top call.
-ghost use Rattle.std.specs.Prelude.{◌≡◌, ℕ, ◌≤◌, false, List, Some, None, Ok, length, codes, IfOk, IfErr, IsErrOf};
-ghost use Rattle.blk_base.specs.Streams.{Rose};
-ghost use Rattle.barrierfs_top.specs.Tasks.{task_of, CanDo};
+ghost use Rattle.std.specs.Prelude.{◌≡◌, ℕ, ◌≤◌, Option, Some, None, Ok, length, codes, IfOk, IfErr, IsErrOf};
+ghost use Rattle.barrierfs_top.specs.Tasks.{lone_task_of, CanDo};
 ghost use Rattle.barrierfs_top.specs.Text.{output_bytes};
-ghost use Rattle.barrierfs_top.specs.Top.{status_of, stream_of, IsReplay, IsBlocksReplay, IsBlocksFault, IsMade, IsInputFault, IsUnread, Does, Cause, Did, Expects, EndsAs, EndsAsExpected, top_fault, end_fault};
-ghost use Rattle.barrierfs_top.specs.Promise.{WentOut, TellsRun};
-ghost use Rattle.barrierfs_top.specs.KeptPuts.{TellsStore};
+ghost use Rattle.barrierfs_top.specs.Top.{status_of, stream_of, IsReplay, IsBlocksReplay, IsBlocksFault, IsMade, IsInputFault, IsUnread, Does, Cause, WasWritten, top_fault, end_fault};
+ghost use Rattle.barrierfs_top.specs.TopEnd.{EndsFor};
 ghost use Rattle.std.specs.String.{string_bytes};
 ghost use Rattle.barrierfs_top.specs.declared.command_line.InputTask.{InputTask};
 ghost use Rattle.barrierfs_top.specs.declared.command_line.Sizes.{Sizes};
@@ -59,7 +57,7 @@ pub fn fault_of(error: ScriptError) -> TopFault
     }
 }
 
-fn read_fault(end: ReadEnd) -> TopFault
+pub fn read_fault(end: ReadEnd) -> TopFault
     ensures { result ≡ end_fault end }
 {
     match end {
@@ -184,9 +182,9 @@ fn make(alloc: Global, sizes: Sizes) -> Result<Printed, TopFault>
 
 // Reads a script and runs it.
 fn read_and_run<R: Source>(alloc: Global, src: &mut R, raw: bool) -> Result<Printed, TopFault>
-    ensures ok { (words : List (List ℕ)) → task_of words ≡ Some (Task.Read (InputTask.Replay raw)) →
-        IfOk result (λ p. Does words (stream_of R.left R.faults src.old src.new) p.report (output_bytes p.output)) }
-    ensures err { (words : List (List ℕ)) → task_of words ≡ Some (Task.Read (InputTask.Replay raw)) → IfErr result (Cause words (stream_of R.left R.faults src.old src.new)) }
+    ensures ok { (asked : Option Task) → asked ≡ Some (Task.Read (InputTask.Replay raw)) →
+        IfOk result (λ p. Does asked (stream_of R.left R.faults src.old src.new) p.report (output_bytes p.output)) }
+    ensures err { (asked : Option Task) → asked ≡ Some (Task.Read (InputTask.Replay raw)) → IfErr result (Cause asked (stream_of R.left R.faults src.old src.new)) }
     ensures steady { (IsErrOf result TopFault.SourceFault → ⊥) → R.faults src.new ≡ R.faults src.old }
 {
     let command = InputTask::Replay { raw };
@@ -198,9 +196,9 @@ fn read_and_run<R: Source>(alloc: Global, src: &mut R, raw: bool) -> Result<Prin
 
 // Reads an image block by block, and makes the text of its tree.
 fn read_and_show<R: Source>(alloc: Global, src: &mut R) -> Result<Printed, TopFault>
-    ensures ok { (words : List (List ℕ)) → task_of words ≡ Some (Task.Read InputTask.Show) →
-        IfOk result (λ p. Does words (stream_of R.left R.faults src.old src.new) p.report (output_bytes p.output)) }
-    ensures err { (words : List (List ℕ)) → task_of words ≡ Some (Task.Read InputTask.Show) → IfErr result (Cause words (stream_of R.left R.faults src.old src.new)) }
+    ensures ok { (asked : Option Task) → asked ≡ Some (Task.Read InputTask.Show) →
+        IfOk result (λ p. Does asked (stream_of R.left R.faults src.old src.new) p.report (output_bytes p.output)) }
+    ensures err { (asked : Option Task) → asked ≡ Some (Task.Read InputTask.Show) → IfErr result (Cause asked (stream_of R.left R.faults src.old src.new)) }
     ensures steady { (IsErrOf result TopFault.SourceFault → ⊥) → R.faults src.new ≡ R.faults src.old }
 {
     match read_image(alloc, src, InputTask::Show.most()) {
@@ -211,9 +209,9 @@ fn read_and_show<R: Source>(alloc: Global, src: &mut R) -> Result<Printed, TopFa
 
 // Reads an image block by block, and widens it.
 fn read_and_widen<R: Source>(alloc: Global, src: &mut R, raw: bool) -> Result<Printed, TopFault>
-    ensures ok { (words : List (List ℕ)) → task_of words ≡ Some (Task.Read (InputTask.Widen raw)) →
-        IfOk result (λ p. Does words (stream_of R.left R.faults src.old src.new) p.report (output_bytes p.output)) }
-    ensures err { (words : List (List ℕ)) → task_of words ≡ Some (Task.Read (InputTask.Widen raw)) → IfErr result (Cause words (stream_of R.left R.faults src.old src.new)) }
+    ensures ok { (asked : Option Task) → asked ≡ Some (Task.Read (InputTask.Widen raw)) →
+        IfOk result (λ p. Does asked (stream_of R.left R.faults src.old src.new) p.report (output_bytes p.output)) }
+    ensures err { (asked : Option Task) → asked ≡ Some (Task.Read (InputTask.Widen raw)) → IfErr result (Cause asked (stream_of R.left R.faults src.old src.new)) }
     ensures steady { (IsErrOf result TopFault.SourceFault → ⊥) → R.faults src.new ≡ R.faults src.old }
 {
     let command = InputTask::Widen { raw };
@@ -225,9 +223,9 @@ fn read_and_widen<R: Source>(alloc: Global, src: &mut R, raw: bool) -> Result<Pr
 
 // Reads an image block by block, and checks it.
 fn read_and_check<R: Source>(alloc: Global, src: &mut R) -> Result<Printed, TopFault>
-    ensures ok { (words : List (List ℕ)) → task_of words ≡ Some (Task.Read InputTask.Check) →
-        IfOk result (λ p. Does words (stream_of R.left R.faults src.old src.new) p.report (output_bytes p.output)) }
-    ensures err { (words : List (List ℕ)) → task_of words ≡ Some (Task.Read InputTask.Check) → IfErr result (Cause words (stream_of R.left R.faults src.old src.new)) }
+    ensures ok { (asked : Option Task) → asked ≡ Some (Task.Read InputTask.Check) →
+        IfOk result (λ p. Does asked (stream_of R.left R.faults src.old src.new) p.report (output_bytes p.output)) }
+    ensures err { (asked : Option Task) → asked ≡ Some (Task.Read InputTask.Check) → IfErr result (Cause asked (stream_of R.left R.faults src.old src.new)) }
     ensures steady { (IsErrOf result TopFault.SourceFault → ⊥) → R.faults src.new ≡ R.faults src.old }
 {
     match read_image(alloc, src, InputTask::Check.most()) {
@@ -238,9 +236,9 @@ fn read_and_check<R: Source>(alloc: Global, src: &mut R) -> Result<Printed, TopF
 
 // Reads a store's script and runs it.
 fn read_and_keep<R: Source>(alloc: Global, src: &mut R) -> Result<Printed, TopFault>
-    ensures ok { (words : List (List ℕ)) → task_of words ≡ Some (Task.Read InputTask.Kv) →
-        IfOk result (λ p. Does words (stream_of R.left R.faults src.old src.new) p.report (output_bytes p.output)) }
-    ensures err { (words : List (List ℕ)) → task_of words ≡ Some (Task.Read InputTask.Kv) → IfErr result (Cause words (stream_of R.left R.faults src.old src.new)) }
+    ensures ok { (asked : Option Task) → asked ≡ Some (Task.Read InputTask.Kv) →
+        IfOk result (λ p. Does asked (stream_of R.left R.faults src.old src.new) p.report (output_bytes p.output)) }
+    ensures err { (asked : Option Task) → asked ≡ Some (Task.Read InputTask.Kv) → IfErr result (Cause asked (stream_of R.left R.faults src.old src.new)) }
     ensures steady { (IsErrOf result TopFault.SourceFault → ⊥) → R.faults src.new ≡ R.faults src.old }
 {
     match read_all(alloc, src, InputTask::Kv.most()) {
@@ -251,19 +249,20 @@ fn read_and_keep<R: Source>(alloc: Global, src: &mut R) -> Result<Printed, TopFa
 
 // All that comes before the first write.
 fn prepare<R: Source>(alloc: Global, words: &Words, src: &mut R) -> Result<Printed, TopFault>
-    ensures ok { IfOk result (λ p. Does words.now (stream_of R.left R.faults src.old src.new) p.report (output_bytes p.output)) }
-    ensures err { IfErr result (Cause words.now (stream_of R.left R.faults src.old src.new)) }
-    ensures words { task_of words.now ≡ None → IsErrOf result TopFault.BadWords }
-    ensures made { (s : Sizes) → task_of words.now ≡ Some (Task.Make s) → IfErr result (λ fault. fault ≡ TopFault.NoMemory) }
-    ensures generated { (n : ℕ) → task_of words.now ≡ Some (Task.Bulk n) → IfErr result (λ fault. fault ≡ TopFault.NoMemory) }
-    ensures unread { ((c : InputTask) → task_of words.now ≡ Some (Task.Read c) → ⊥) → IsUnread (stream_of R.left R.faults src.old src.new) }
+    ensures ok { IfOk result (λ p. Does (lone_task_of words.now) (stream_of R.left R.faults src.old src.new) p.report (output_bytes p.output)) }
+    ensures err { IfErr result (Cause (lone_task_of words.now) (stream_of R.left R.faults src.old src.new)) }
+    ensures words { lone_task_of words.now ≡ None → IsErrOf result TopFault.BadWords }
+    ensures made { (s : Sizes) → lone_task_of words.now ≡ Some (Task.Make s) → IfErr result (λ fault. fault ≡ TopFault.NoMemory) }
+    ensures generated { (n : ℕ) → lone_task_of words.now ≡ Some (Task.Bulk n) → IfErr result (λ fault. fault ≡ TopFault.NoMemory) }
+    ensures unread { ((c : InputTask) → lone_task_of words.now ≡ Some (Task.Read c) → ⊥) → IsUnread (stream_of R.left R.faults src.old src.new) }
     ensures steady { (IsErrOf result TopFault.SourceFault → ⊥) → R.faults src.new ≡ R.faults src.old }
 {
-    let Some(task) = words.task() else {
+    let Some(task) = words.lone_task() else {
         return Err(TopFault::BadWords);
     };
     match task {
         Task::Read(InputTask::Replay { raw }) => read_and_run(alloc, src, raw),
+        Task::Read(InputTask::Run { .. }) => unreachable!(),
         Task::Read(InputTask::Show) => read_and_show(alloc, src),
         Task::Read(InputTask::Widen { raw }) => read_and_widen(alloc, src, raw),
         Task::Read(InputTask::Check) => read_and_check(alloc, src),
@@ -286,23 +285,22 @@ fn prepare<R: Source>(alloc: Global, words: &Words, src: &mut R) -> Result<Print
 /// The statuses are tested in the order 2, 5 and 7, 3 or 4, 9 or 10, 6. Status 8, want of memory, may come at any place
 /// before the first write.
 pub fn alone<R: Source, W: Sink>(alloc: Global, words: &Words, src: &mut R, out: &mut W) -> Outcome
-    ensures promise { (bytes : List ℕ) → task_of words.now ≡ Some (Task.Read (InputTask.Replay false)) → WentOut (W.taken out.old) (W.taken out.new) bytes → TellsRun (R.left src.old) (R.left src.new) result.fault bytes }
-    ensures kept_puts { (bytes : List ℕ) → task_of words.now ≡ Some (Task.Read InputTask.Kv) → WentOut (W.taken out.old) (W.taken out.new) bytes → TellsStore (R.left src.old) (R.left src.new) result.fault bytes }
     ensures status { result.status ≡ status_of result.fault }
-    ensures did { Did words.now (stream_of R.left R.faults src.old src.new) (stream_of W.taken W.faults out.old out.new) result.report result.fault }
-    ensures words { task_of words.now ≡ None → result.fault ≡ Some TopFault.BadWords }
-    ensures unread { ((c : InputTask) → task_of words.now ≡ Some (Task.Read c) → ⊥) → IsUnread (stream_of R.left R.faults src.old src.new) }
-    ensures complete { (c : InputTask) → task_of words.now ≡ Some (Task.Read c) → (text : List ℕ) → R.left src.old ≡ Some text → ¬ Rose (R.faults src.old) (R.faults src.new) → ¬ Rose (W.faults out.old) (W.faults out.new) → EndsAsExpected c text result.fault }
-    ensures refused { (c : InputTask) → task_of words.now ≡ Some (Task.Read c) → (text : List ℕ) → R.left src.old ≡ Some text → ¬ Rose (R.faults src.old) (R.faults src.new) → (fault : TopFault) → Expects c text (Some fault) → EndsAs (Some fault) result.fault }
-    ensures made { (s : Sizes) → task_of words.now ≡ Some (Task.Make s) → ¬ Rose (W.faults out.old) (W.faults out.new) → EndsAs None result.fault }
-    ensures generated { (n : ℕ) → task_of words.now ≡ Some (Task.Bulk n) → ¬ Rose (W.faults out.old) (W.faults out.new) → EndsAs None result.fault }
-    ensures source_steady { (result.fault ≡ Some TopFault.SourceFault → ⊥) → R.faults src.new ≡ R.faults src.old }
-    ensures sink_steady { (result.fault ≡ Some TopFault.SinkFault → ⊥) → W.faults out.new ≡ W.faults out.old }
+    ensures ends { EndsFor (lone_task_of words.now) (stream_of R.left R.faults src.old src.new) (stream_of W.taken W.faults out.old out.new) result.report result.fault }
 {
-    let printed = match prepare(alloc, words, src) {
-        Ok(printed) => printed,
-        Err(fault) => return failed(fault),
-    };
+    match prepare(alloc, words, src) {
+        Ok(printed) => written(printed, out),
+        Err(fault) => failed(fault),
+    }
+}
+
+// Writes what is prepared.
+pub(crate) fn written<W: Sink>(printed: Printed, out: &mut W) -> Outcome
+    ensures status { result.status ≡ status_of result.fault }
+    ensures written { WasWritten (output_bytes printed.output) (stream_of W.taken W.faults out.old out.new) result.fault }
+    ensures report { result.report ≡ printed.report }
+    ensures steady { (result.fault ≡ Some TopFault.SinkFault → ⊥) → W.faults out.new ≡ W.faults out.old }
+{
     match printed.output.write(out) {
         Ok(()) => Outcome {
             status: 0,
@@ -318,7 +316,7 @@ pub fn alone<R: Source, W: Sink>(alloc: Global, words: &Words, src: &mut R, out:
 }
 
 // Nothing was written.
-fn failed(fault: TopFault) -> Outcome
+pub(crate) fn failed(fault: TopFault) -> Outcome
     ensures status { result.status ≡ status_of (Some fault) }
     ensures fault { result.fault ≡ Some fault }
     ensures report { result.report ≡ None }

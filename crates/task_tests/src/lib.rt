@@ -1,13 +1,16 @@
-//! Tests of the top call's tasks that check an image, run a generated workload and run the script of a store, by what goes
-//! out.
+//! Tests of the top call's tasks that check an image, run a generated workload, the script of a store and a volume script in
+//! threads, by what goes out; and a law on how long an input may be.
 //!
 //! Stands on `barrierfs_top`, and on `session_report::bulk` for the script of a workload.
 #![tactic(auto)]
 
 #[cfg(test)]
 mod checks;
+pub mod limits;
 #[cfg(test)]
 mod stores;
+#[cfg(test)]
+mod threads;
 #[cfg(test)]
 mod told;
 #[cfg(test)]

@@ -3,11 +3,11 @@ use Rattle.barrierfs_top.proofs.Ends.{shows_if, show_cause}
 use Rattle.barrierfs_top.proofs.top.read_and_show.Goals as goal
 
 pub returns-in-Ok-clause-ok : goal.returns-in-Ok-clause-ok
-returns-in-Ok-clause-ok g c = λ words asked.
+returns-in-Ok-clause-ok g c = λ asked e.
     let source = stream_of g.R.Source.left g.R.Source.faults c.args.src.now c.read_image.new.src in
-    shows_if words source c.most.result c.in-Ok.image c.show.result asked c.in-Ok.ensures.all c.most.ensures c.show.ensures.ok
+    shows_if asked source c.most.result c.in-Ok.image c.show.result e c.in-Ok.ensures.all c.most.ensures c.show.ensures.ok
 
 pub returns-in-Ok-clause-err : goal.returns-in-Ok-clause-err
-returns-in-Ok-clause-err g c = λ words asked.
+returns-in-Ok-clause-err g c = λ asked e.
     let source = stream_of g.R.Source.left g.R.Source.faults c.args.src.now c.read_image.new.src in
-    show_cause words source c.most.result c.in-Ok.image c.show.result asked c.in-Ok.ensures.all c.most.ensures c.show.ensures.err
+    show_cause asked source c.most.result c.in-Ok.image c.show.result e c.in-Ok.ensures.all c.most.ensures c.show.ensures.err
