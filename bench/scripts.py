@@ -1,5 +1,6 @@
 #!/usr/bin/env python3
-"""Writes scripts of the most blocks and requests that the limits allow, and volume scripts of several sizes, to the folder that is given."""
+"""Writes scripts of the most blocks and requests that the limits allow, and volume scripts of several sizes, to the folder that is
+given; with a word behind it, volume scripts for `run` in their place."""
 import os
 import sys
 
@@ -169,6 +170,35 @@ def put(i, kind):
     return "put %d %02x %s" % (i * 7 % BLOCKS, i % 256, kind)
 
 
+def mails(name, threads, files):
+    """Threads that each make a directory and so many files in it, each of 1,000 bytes and synced, and then sync all."""
+    text = ["volume inodes 256 zones 512 journal 256"]
+    for thread in range(1, threads + 1):
+        text += ["thread %d" % thread, "mkdir /t%d" % thread]
+        for file in range(files):
+            path = "/t%d/m%d" % (thread, file)
+            text += ["create " + path, "write %s 0 1000 61" % path, "fsync " + path]
+        text.append("sync")
+    return name, "\n".join(text + ["events", "round %d" % (40 * files)]) + "\n"
+
+
+def syncing(name, threads, count):
+    """Threads that each write over the block of a file of their own so many times, with an `fsync` behind each write."""
+    text = ["volume inodes 64 zones 512 journal 1024", "limit 200000"]
+    for thread in range(1, threads + 1):
+        path = "/f%d" % thread
+        text += ["thread %d" % thread, "create " + path]
+        for at in range(count):
+            text += ["write %s 0 1024 %02x" % (path, at % 256), "fsync " + path]
+    return name, "\n".join(text + ["events", "round %d" % (60 * count)]) + "\n"
+
+
+def thread_cases():
+    yield mails("threads-608-replies", 4, 50)
+    for threads in (1, 2, 4, 8, 16):
+        yield syncing("threads-%d-fsync" % threads, threads, 100)
+
+
 def cases():
     yield device("device-thousand-epochs", lambda i: put(i, "barrier" if i % 10 == 9 else "ordered"))
     yield device("device-one-epoch", lambda i: put(i, "ordered"))
@@ -212,7 +242,7 @@ def cases():
 def main():
     folder = sys.argv[1]
     os.makedirs(folder, exist_ok=True)
-    for name, text in cases():
+    for name, text in thread_cases() if sys.argv[2:] else cases():
         with open(os.path.join(folder, name + ".script"), "w") as out:
             out.write(text)
         print(name)

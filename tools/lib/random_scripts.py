@@ -19,6 +19,7 @@ import images  # noqa: E402
 import mutated_scripts  # noqa: E402
 import random_images  # noqa: E402
 import stores  # noqa: E402
+import threads as threads_rules  # noqa: E402
 
 
 def repeated(rng, line, most):
@@ -285,6 +286,26 @@ def cut_script(rng):
     return "\n".join(script) + "\n"
 
 
+def threads_script(rng):
+    """Calls of threads that run at once, with power cuts, failing transfers and limits, and sometimes a script that is changed in
+    some places."""
+    kind = rng.choice(["plain", "plain", "plain", "wide", "tight", "long"])
+    count = rng.choice([1, 2, 3, 4, 8, 16]) if kind == "plain" else rng.choice([1, 2, 4])
+    zones = rng.choice({"tight": [10, 12, 14, 16]}.get(kind, [40, 100, 400]))
+    lines = [*stack_lines(rng), f"seed {rng.randint(0, 1_000_000_000)}"]
+    lines += [f"cut {rng.randint(0, rng.choice([20, 60, 150, 600]))}", f"limit {rng.randint(1, rng.choice([30, 100, 300]))}"]
+    script = [first_line(rng, rng.choice([8, 32, 40]), zones, rng.choice([128, 128, 256])), *header(rng, lines)]
+    files, values = ["/a", "/b"] if rng.random() < 0.8 else [], itertools.count()
+    for thread in range(1, count + 1):
+        script += [f"thread {thread}", *(f"create {file}" for file in files if thread == 1), *thread_calls(rng, kind, files, values)]
+        script += ["sync"] if rng.random() < 0.3 else []
+    script += ["events", *([f"round {rng.randint(1, 9)}"] if rng.random() < 0.2 else []), *(recover_line(rng) for _ in range(rng.choice([0, 0, 1, 3])))]
+    add_failure(rng, script, rng.choice([10, 60, 200]))
+    if rng.random() < 0.1:
+        script.insert(rng.randint(1, len(script)), rng.choice(["flash 3", "flash", "flush", "device 4", "thread 9"]))
+    return "\n".join(script) + "\n"
+
+
 def crowd_script(rng):
     """A session that gets to a limit, and most often a power cut and attempts of recovery: more requests than the scheduler holds,
     of neighbouring blocks; a log that comes round many times; directories and files of as many links as there may be, or of
@@ -472,6 +493,11 @@ def store_case(rng, _):
     return Case(script, lambda printed: stores.broken(script, printed) or difference(printed, stores.fault(script) or report_soon(script) or printed), ["kv"])
 
 
+def threads_case(rng, _):
+    script = threads_script(rng)
+    return Case(script, lambda printed: threads_rules.fault(script, printed), ["run"])
+
+
 def mutant_case(_, seed):
     """A script that was changed in some places: its first faulty line, or its report."""
     script = mutated_scripts.mutated_script(seed)
@@ -506,7 +532,7 @@ def late(*_):
 
 CASES = {
     "blocks": blocks_case, "session": session_case, "cut": cut_case, "crowd": crowd_case, "limit": limit_case, "image": image_case,
-    "mutant": mutant_case, "store": store_case,
+    "mutant": mutant_case, "store": store_case, "threads": threads_case,
 }
 HOSTILE = ("image", "mutant")  # kinds of inputs of which any bytes may come, and none may take long
 PATIENCE, LATE = 60, 1000  # seconds of a run, and what stands for its status where it takes longer
