@@ -2,8 +2,8 @@
 use Rattle.std.proofs.Common.{◌≡◌, ◌≢◌, ℕ, zero, suc, ◌+◌, ◌<◌, ◌≤◌, Bool, true, false, cond, eqb, List, [], ◌∷◌, ◌++◌, length, get_or, set, replicate, refl, sym, subst, inl, inr, ap, ap₂, ◌∙◌, arith, get_or-set_other}
 use Rattle.std.specs.List.{All}
 use Rattle.std.proofs.lemmas.Bool.{cases_eq, eq-eqb, ne_eqb}
-use Rattle.std.proofs.lemmas.List.{length-set, length-append, length-replicate, get_or_append_left, get_or-set_same, get_or_default, get_or_push, map-set, map_push, get_or-map, set-get_or}
-use Rattle.std.proofs.lemmas.List.Elements.{All-head, All-tail, All-set, All-push, All-weaker, All-replicate}
+use Rattle.std.proofs.lemmas.List.{length-set, length-append, get_or_append_left, get_or-set_same, get_or_default, get_or_push, map-set, map_push, get_or-map, set-get_or}
+use Rattle.std.proofs.lemmas.List.Elements.{All-head, All-tail, All-set, All-push, All-weaker}
 use Rattle.std.proofs.lemmas.List.Sums.{sum_by-set, sum_by-cons, sum_by_push}
 use Rattle.blk_base.specs.Block.{filled}
 use Rattle.blk_base.specs.code.Bodies.{body_at, blocks_of, at_place, IsKept}
@@ -141,18 +141,6 @@ zeros_of bodies places n only none = ap₂ blocks_of only none ∙ alone n
     alone zero = refl
     alone (suc n) = ap (λ xs. filled 0 ∷ xs) (alone n)
 
-pub kept_zeros : (n : ℕ) → IsKept (filled 0 ∷ []) (replicate n 0)
-kept_zeros n = record {
-  zeros = refl;
-  within = All-replicate (λ p. p < 1) n 0 (omega arith);
-  apart = λ q own. let none = others q own n in omega (arith, none);
-  room = let all = zeros n in let len = length-replicate {A = ℕ} n 0 in omega (arith, all, len);
-}
-  where
-    others : (q : ℕ) → 0 < q → (n : ℕ) → at_place q (replicate n 0) ≡ 0
-    others q own zero = refl
-    others q own (suc n) = at_place-other q 0 (replicate n 0) (λ e. omega (arith, e, own)) ∙ others q own n
-
     zeros : (n : ℕ) → at_place 0 (replicate n 0) ≡ n
     zeros zero = refl
     zeros (suc n) = at_place-here 0 0 (replicate n 0) refl ∙ ap suc (zeros n)
@@ -161,11 +149,6 @@ kept_zeros n = record {
 
 place-push : (q : ℕ) (places : List ℕ) (p : ℕ) → at_place q (places ++ p ∷ []) ≡ at_place q places + one_if (eqb p q)
 place-push q places p = sum_by_push (λ x. one_if (eqb x q)) places p
-
-pub push_nothing : (bodies : List (List ℕ)) (places : List ℕ) (body : List ℕ) → IsKept bodies places → body ≡ filled 0
-    → blocks_of bodies (places ++ 0 ∷ []) ≡ blocks_of bodies places ++ body ∷ []
-push_nothing bodies places body kept zeros =
-    map_push (body_at bodies) places 0 ∙ ap (λ x. blocks_of bodies places ++ x ∷ []) (kept.zeros ∙ sym zeros)
 
 pub push_behind : (bodies : List (List ℕ)) (places : List ℕ) (body : List ℕ) → IsKept bodies places
     → blocks_of (bodies ++ body ∷ []) (places ++ length bodies ∷ []) ≡ blocks_of bodies places ++ body ∷ []

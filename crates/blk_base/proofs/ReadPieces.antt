@@ -1,9 +1,9 @@
 -- An image that is read piece by piece.
-use Rattle.std.proofs.Common.{◌≡◌, ℕ, ◌+◌, ◌-◌, ◌*◌, ◌/◌, ◌<◌, ◌≤◌, List, [], ◌++◌, length, take, drop, Option, Some, None, refl, sym, ap, ap₂, subst, take-add, ◌∙◌, arith, append-nil, length-append}
+use Rattle.std.proofs.Common.{◌≡◌, ℕ, ◌+◌, ◌-◌, ◌*◌, ◌/◌, ◌<◌, ◌≤◌, List, [], ◌++◌, length, take, drop, Option, Some, None, sym, ap, ap₂, take-add, ◌∙◌, arith, append-nil, length-append}
 use Rattle.std.proofs.lemmas.List.{drop-take, length-take-le, take-append-le, take_all, take_at, drop_at, length-drop}
 use Rattle.std.specs.Io.KnownBytes.{Consumes, IsAtEnd}
 use Rattle.std.specs.List.{copy_within}
-use Rattle.std.proofs.KnownBytes.{Consumes-nil, Consumes-trans}
+use Rattle.std.proofs.KnownBytes.{Consumes-trans}
 use Rattle.blk_base.specs.Image.{whole_blocks, last_part, IsImageRead}
 use Rattle.blk_base.specs.Streams.{Drained}
 use Rattle.blk_base.specs.laws.Cutting.{IsCut, cut_more, cut_is_whole_blocks, whole_blocks_are_cut}
@@ -37,14 +37,6 @@ pub record IsReadOn (most room : ℕ) (old now : Option (List ℕ)) (blocks : Li
   pub consumed : Consumes old now bytes
   pub counted : length bytes + room ≡ most
   pub cut : IsCut bytes blocks part
-
-pub nothing_read : (most : ℕ) (old : Option (List ℕ)) (blocks : List (List ℕ)) (part : List ℕ) → blocks ≡ [] → part ≡ [] → IsReadOn most most old old blocks part
-nothing_read most old blocks part none empty = record {
-  bytes = [];
-  consumed = Consumes-nil old;
-  counted = omega arith;
-  cut = subst (λ bs. IsCut [] bs part) (sym none) (subst (λ p. IsCut [] [] p) (sym empty) (record { all = refl; whole = λ k d lt. absurd (omega (arith, lt)); under = omega arith }));
-}
 
 pub read_more : (most room n : ℕ) (old now new : Option (List ℕ)) (blocks on : List (List ℕ)) (part more rest : List ℕ) → IsReadOn most room old now blocks part
     → Consumes now new more → length more ≡ n → n ≤ room → on ≡ blocks ++ whole_blocks (part ++ more) → rest ≡ last_part (part ++ more)

@@ -81,9 +81,6 @@ folds-length (p ∷ log) =
       | inr f ↦ rw f refl
     ]
 
-pub writes-length : (log : List Page) → length (writes log) ≡ length (programs 0 log) + (if can_fold log then 1 else 0)
-writes-length log = length-append (programs 0 log) (folds log) ∙ ap (λ k. length (programs 0 log) + k) (folds-length log)
-
 -- ---- the prefix by its length
 
 pub open-behind : (n : ℕ) (log : List Page) → programs n log ≡ programs (n + length (prefix log)) (drop (length (prefix log)) log)
@@ -300,12 +297,6 @@ in-programmed blocks i log all = In-All (IsIn blocks) (programmed_at i log) (λ 
 -- the page at this place is in the list of pages
 pub in-log : (blocks i : ℕ) (log : List Page) (p : Page) → All (IsIn blocks) log → slice_get log i ≡ Some p → p.place.block < blocks
 in-log blocks i log p all e = All-In (IsIn blocks) log p all (slice_get-In log i p e)
-
--- an open page is counted
-pub some-open : (i : ℕ) (log : List Page) (p : Page) → slice_get log i ≡ Some p → p.programmed ≡ false → 1 ≤ length (programs 0 log)
-some-open i log p e f =
-    let one = open-programmed 0 i log p e ∙ ap (λ b. length (programs 0 (programmed_at i log)) + (if b then 0 else 1)) f in
-    omega (arith, one)
 
 -- ---- the oldest page is folded
 

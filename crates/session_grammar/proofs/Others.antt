@@ -1,5 +1,5 @@
 -- Lines with too few words or too many.
-use Rattle.std.proofs.Common.{◌≡◌, ℕ, ◌<◌, List, [], ◌∷◌, length, map, Option, None, Err, refl, arith}
+use Rattle.std.proofs.Common.{◌≡◌, ℕ, ◌<◌, List, [], ◌∷◌, length, map, Option, Err, refl, arith}
 use Rattle.minix_layout.specs.declared.limits.TheConstants.{DEFAULT_WIDTH}
 use Rattle.script_grammar.specs.declared.kinds.ScriptKind.TheVariants as kinds
 use Rattle.session_grammar.specs.declared.reading.Reading.{Reading}
@@ -9,17 +9,6 @@ pub journal_of_few : {X : Type 0} (f : X → List ℕ) (inodes zones : Option �
 journal_of_few f inodes zones [] lt = refl
 journal_of_few f inodes zones (x ∷ []) lt = refl
 journal_of_few f inodes zones (x ∷ y ∷ xs) lt = absurd (omega arith)
-
-pub wide_of_one : {X : Type 0} (f : X → List ℕ) (xs : List X) → 0 < length xs → length xs < 2 → wide_told (map f xs) ≡ None
-wide_of_one f [] some lt = absurd (omega arith)
-wide_of_one f (x ∷ []) some lt = refl
-wide_of_one f (x ∷ y ∷ xs) some lt = absurd (omega arith)
-
-pub wide_of_many : {X : Type 0} (f : X → List ℕ) (xs : List X) → 2 < length xs → wide_told (map f xs) ≡ None
-wide_of_many f [] lt = absurd (omega arith)
-wide_of_many f (x ∷ []) lt = absurd (omega arith)
-wide_of_many f (x ∷ y ∷ []) lt = absurd (omega arith)
-wide_of_many f (x ∷ y ∷ z ∷ xs) lt = refl
 
 pub form_of_few : {X : Type 0} (f : X → List ℕ) (xs : List X) → length xs < 2 → form_told (map f xs) ≡ form_with DEFAULT_WIDTH (wide_told (map f xs))
 form_of_few f [] lt = refl

@@ -197,10 +197,6 @@ module _ (m : Moved) (h : HasSlots m) (blocks : List (List ℕ)) where
 
 -- ---- links
 
-pub lacks_none : (a b : Bool) → a ≡ false → false ≡ (a && b)
-lacks_none true b e = absurd (true≢false e)
-lacks_none false b e = refl
-
 pub lacks_later : (a b f : Bool) → a ≡ true → b ≡ false → false ≡ (a && (b && f))
 lacks_later true true f d e = absurd (true≢false e)
 lacks_later true false f d e = refl
@@ -264,10 +260,6 @@ module _ (tree : Tree) (m : Move) (other : meets_directory m ≡ false) (file : 
 pub none_there : {X Y : Type 0} (f : X → Y) (o : Option X) → is_some o ≡ false → is_none (option_map f o) ≡ true
 none_there f None e = refl
 none_there f (Some x) e = absurd (true≢false e)
-
-pub some_there : {X Y : Type 0} (f : X → Y) (o : Option X) → is_some o ≡ true → is_none (option_map f o) ≡ false
-some_there f None e = absurd (true≢false (sym e))
-some_there f (Some x) e = refl
 
 -- ---- the root's path, and one directory
 

@@ -1,5 +1,5 @@
 -- What filters, maps and edits do to membership, and the element at a place.
-use Rattle.std.specs.Prelude.{◌≡◌, ◌≢◌, ℕ, zero, suc, ◌-◌, ◌<◌, ◌≤◌, Bool, true, false, not, ◌==◌, List, [], ◌∷◌, ◌++◌, ◌⊎◌, ⊤, Some, None, length, map, slice_get, take, replicate, refl}
+use Rattle.std.specs.Prelude.{◌≡◌, ◌≢◌, ℕ, zero, suc, ◌-◌, ◌<◌, ◌≤◌, Bool, true, false, not, ◌==◌, List, [], ◌∷◌, ◌++◌, ◌⊎◌, Some, None, length, map, slice_get, take, replicate, refl}
 use Rattle.std.specs.List.{All, filter, list_any, list_all, remove}
 use Rattle.std.proofs.Common.{set, sym, ap, subst, ◌∙◌, inl, inr, ⊎_elim, arith}
 use Rattle.std.proofs.lemmas.Bool.{cases_Bool, false≢true, or_left, or_right, or_cases, and_from, and_parts, or_parts, ne_eqb, eq-eqb}
@@ -273,9 +273,6 @@ each_push P xs y h p x i = ⊎_elim (h x) (λ e. subst P e p) (In-push_cases xs 
 
 pub each_set : {X : Type 0} (P : X → Type 0) (xs : List X) (i : ℕ) (y : X) → ((x : X) → In x xs → P x) → P y → (x : X) → In x (set xs i y) → P x
 each_set P xs i y h p x k = ⊎_elim (h x) (λ e. subst P e p) (In-set_cases xs i y x k)
-
--- what a push adds and keeps, for `using`
-pub ruleset pushes = (In-push, In-push_left, In-push_cases)
 
 -- ---- lists in the order of a key
 

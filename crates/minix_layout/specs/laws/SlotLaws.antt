@@ -2,7 +2,7 @@
 use Rattle.std.specs.Prelude.{◌≡◌, ◌≢◌, ℕ, zero, suc, ◌+◌, ◌-◌, ◌*◌, ◌^◌, ◌<◌, ◌≤◌, ◌==◌, Bool, true, false, not, cond, nat_lt, nat_le, if◌then◌else◌, ◌↔◌, IsTrue, IfErr, IfSome, slice_index, List, [], ◌∷◌, ◌++◌, length, take, drop, Option, Some, None, Result, Ok, Err, refl}
 use Rattle.std.specs.List.{list_any, before_first, position_or_len, prefix_len}
 use Rattle.std.proofs.Common.{sym, ap, ◌∙◌, arith, inl, inr, lit≤}
-use Rattle.std.proofs.lemmas.Bool.{and_parts, and_from, ltb-true, leb-true, lt-ltb, le-leb, eqb-true, eqb-false, eq-eqb, ne_eqb, not-true, not_from_false, or_left, or_right, or_from, or_parts, cases_lt, both_ways}
+use Rattle.std.proofs.lemmas.Bool.{and_parts, and_from, ltb-true, lt-ltb, le-leb, eqb-true, eqb-false, eq-eqb, ne_eqb, not-true, not_from_false, or_left, or_right, or_from, or_parts, cases_lt, both_ways}
 use Rattle.std.proofs.lemmas.List.{take_all, drop_at, drop-replicate, length-take, length-append, length-take-le}
 use Rattle.byte_fields.specs.laws.ReadLaws.{get_or-put_other, length-zeros, length-put, length-put_bytes, bytes_at-put, number_at-put_same, record_at-put_same, record_at-put_other}
 use Rattle.byte_fields.specs.Fields.{Apart, zeros, bytes_at, put_bytes, number_of, number_at, record_at, put_record}
@@ -255,11 +255,6 @@ all_entries width None readable short entry = tt
 all_entries width (Some s) readable short entry =
     let more = entry readable in
     record { used = readable.0; fits = more.0; name = more.1; short = short; no_slash = readable.1 }
-
--- there are two widths
-pub other_width : (width : ℕ) → IsWidth width → width ≢ 14 → width ≡ 30
-other_width width of_14 other = absurd (other refl)
-other_width width of_30 other = refl
 
 -- a place of a block lies in it
 pub slot_within : (width at : ℕ) → IsWidth width → at < slots_a_block width → slot_size width * at + slot_size width ≤ 1024

@@ -1,11 +1,9 @@
 -- Calls one after the other, as they are put behind others.
-use Rattle.std.specs.Prelude.{◌≡◌, ℕ, suc, ◌+◌, ◌<◌, ◌≤◌, List, [], ◌∷◌, ◌++◌, length, drop, get_or}
-use Rattle.std.proofs.Common.{refl, sym, ap, ap₂, subst, ◌∙◌, arith, append_assoc, append-nil, add-one, drop-cons}
-use Rattle.std.proofs.lemmas.List.{drop_all}
+use Rattle.std.specs.Prelude.{◌≡◌, ℕ, ◌+◌, ◌<◌, ◌≤◌, List, ◌∷◌, ◌++◌, length, drop, get_or}
+use Rattle.std.proofs.Common.{refl, sym, ap, ap₂, subst, ◌∙◌, arith, append_assoc, add-one, drop-cons}
 use Rattle.tree_model.specs.declared.call.Call.{Call}
 use Rattle.wal_store.specs.declared.puts.Op.{Op}
 use Rattle.wal_store.specs.declared.puts.Op.TheVariants as ops
-use Rattle.wal_store.specs.Puts.{IsPut}
 use Rattle.wal_store.specs.declared.calls.calls.TheConstants.{MOST_ROOM}
 use Rattle.wal_store.specs.calls.Calls.{op_calls, next, calls_from, put_count, ArePuts, Fits}
 
@@ -44,6 +42,3 @@ module _ (xs : List Op) (k : ℕ) (d : Op) (lt : k < length xs) where
   pub fits-here : (i : ℕ) → i + put_count (drop k xs) ≤ MOST_ROOM → ArePuts (drop k xs) → Fits i (get_or xs k d)
   fits-here i few all =
       fits-first (get_or xs k d) (drop (k + 1) xs) i (subst (λ ys. i + put_count ys ≤ MOST_ROOM) (from-place xs k d lt) few) (subst ArePuts (from-place xs k d lt) all)
-
-pub calls-none : (xs : List Op) (k i : ℕ) (made : List Call) → length xs ≤ k → made ++ calls_from i (drop k xs) ≡ made
-calls-none xs k i made le = ap (λ ys. made ++ calls_from i ys) (drop_all k xs le) ∙ append-nil made
