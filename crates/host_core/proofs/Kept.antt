@@ -20,7 +20,7 @@ use Rattle.host_answers.specs.declared.entry.Entry.{Entry}
 use Rattle.host_core.specs.code.Fields.{IsHost, IsWithin, AreNoted}
 use Rattle.host_core.specs.code.Progress.{KeepsHost, parts_now}
 use Rattle.host_core.specs.code.Steps.{released}
-use Rattle.host_core.specs.declared.parts.Parts.{Parts}
+use Rattle.host_core.specs.declared.host_parts.HostParts.{HostParts}
 use Rattle.host_core.specs.declared.thread.Thread.{Thread}
 use Rattle.host_core.proofs.Plainly.{plainly_silent}
 use Rattle.host_core.proofs.WaitsKept.{going_keeps}
@@ -46,7 +46,7 @@ kept_with j v ts entries more at new h own noted = record {
 }
 
 -- a caller's step, with what it found and what was noted
-pub kept_noted : (old mid : Parts) (l : CommitActor) (f : FlushPart) (ts : List Thread) (entries more : List Entry) (at : ℕ) (new : Thread) → IsHost old.journal old.volume ts entries → KeepsHost old mid
+pub kept_noted : (old mid : HostParts) (l : CommitActor) (f : FlushPart) (ts : List Thread) (entries more : List Entry) (at : ℕ) (new : Thread) → IsHost old.journal old.volume ts entries → KeepsHost old mid
     → l ≡ with_flush mid.journal f → length l.part.flush.waits ≡ length mid.journal.part.flush.waits → IsWithin new → AreNoted (set ts at new) more → IsHost l mid.volume (set ts at new) more
 kept_noted old mid l f ts entries more at new h k journal waits own noted =
     let stays = kept old.journal l old.volume mid.volume ts entries h (ap (λ (a : CommitActor). a.blocks) journal ∙ k.blocks) k.geometry (waits ∙ k.waits) in
@@ -62,7 +62,7 @@ any_err (Ok x) p = tt
 any_err (Err e) p = p
 
 -- what a begun call's step keeps
-pub going_kept : (old new : Parts) (full : Bool) (t : ℕ) (w : Wait) (b : Begun) (part : JournalPart) (pages : List CachedPage) (x : Gone) → x.part ≡ new.journal.part
+pub going_kept : (old new : HostParts) (full : Bool) (t : ℕ) (w : Wait) (b : Begun) (part : JournalPart) (pages : List CachedPage) (x : Gone) → x.part ≡ new.journal.part
     → x ≡ goes_on full old.journal.part old.pages.pages t w b → keeps_all old.journal new.journal → new.volume ≡ old.volume → KeepsHost old new
 going_kept old new full t w b part pages x is e same volume = record {
   made_with = ap (λ (a : CommitActor). a.made_with) same;
@@ -73,7 +73,7 @@ going_kept old new full t w b part pages x is e same volume = record {
 }
 
 -- and a plain call's
-pub plain_kept : (old new : Parts) (writers : Writers) (zmap most n : ℕ) (c : Call) (x : PlainProgress) → (let w : Went = record { parts = parts_now new; progress = x } in w) ≡ steps_plainly writers zmap most (parts_now old) n c
+pub plain_kept : (old new : HostParts) (writers : Writers) (zmap most n : ℕ) (c : Call) (x : PlainProgress) → (let w : Went = record { parts = parts_now new; progress = x } in w) ≡ steps_plainly writers zmap most (parts_now old) n c
     → new.journal ≡ with_part old.journal new.journal.spare new.journal.part → KeepsHost old new
 plain_kept old new writers zmap most n c x e same =
     let silent = plainly_silent writers zmap most (parts_now old) n c in

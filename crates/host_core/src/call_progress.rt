@@ -1,12 +1,12 @@
 //! How far a step brought a call.
-use crate::answer::Answer;
 use crate::begun::Begun;
+use crate::noted_reply::NotedReply;
 use host_answers::Cause;
 
 /// How far a call came, before that is noted.
 #[derive(Drop)]
 pub enum CallProgress {
-    Answered(Answer),
+    Answered(NotedReply),
     /// It was a barrier or sync call, and what it asked for holds.
     Done,
     /// The session may have no more requests.

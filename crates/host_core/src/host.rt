@@ -18,7 +18,7 @@ ghost use Rattle.journal_ring.specs.Journal as new_ring;
 ghost use Rattle.host_core.specs.Now.{host_made, model_now, setup_now, with_host};
 
 use crate::at_once::PlainVolume;
-use crate::parts::Parts;
+use crate::host_parts::HostParts;
 use crate::programs::Programs;
 use crate::thread::Thread;
 use blk_base::NoMemory;
@@ -34,7 +34,7 @@ use std::marker::Model;
 /// The volume, its cached pages, the journal, and the callers, with what they did.
 #[derive(Drop)]
 pub struct Host {
-    pub(crate) parts: Parts,
+    pub(crate) parts: HostParts,
     pub(crate) history: Vec<Entry>,
     cuts: Vec<u64>,
     pub(crate) threads: Vec<Thread>,
@@ -100,7 +100,7 @@ impl Host {
         let threads = programs.into_threads();
         match journal_and_owners(alloc, ring, limit, zones, threads.len() as u32) {
             Ok((journal, owners)) => Ok(Host {
-                parts: Parts {
+                parts: HostParts {
                     journal,
                     volume,
                     pages,

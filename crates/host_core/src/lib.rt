@@ -5,15 +5,14 @@
 //! their log blocks, and the write-back sends single pages.
 //!
 //! `host` has the host with the actors' steps, `calling` the callers' step, and `standing` how a caller stands. `stepping`
-//! has what a step finds of a call, on the `parts` of the host that calls change, and `found` and `answer` what that is;
-//! `settling` has what the host then notes of the call. `programs` has the callers' calls, and `thread` a caller.
+//! has a step of a call, on the `host_parts` that calls change, and `call_progress` and `noted_reply` how far that brought
+//! it; `settling` has what the host then notes of the call. `programs` has the callers' calls, and `thread` a caller.
 //!
 //! Stands on `commit_actor` and `flush_actor`, whose parts it has together, on `page_cache`, and on `begun`
 //! and `at_once` for the steps of calls, which has the volume, too; `minix_host` says what the
 //! machine is over it.
 #![tactic(auto)]
 
-mod answer;
 pub mod at_once;
 pub mod begun;
 mod call_progress;
@@ -21,8 +20,9 @@ mod calling;
 pub mod effects;
 pub mod gates;
 mod host;
+mod host_parts;
 pub mod lengths;
-mod parts;
+mod noted_reply;
 mod programs;
 mod settling;
 mod standing;

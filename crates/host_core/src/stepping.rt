@@ -10,11 +10,13 @@ ghost use Rattle.host_core.specs.code.Progress.{KeepsHost, Over, goes_further, i
 ghost use Rattle.host_core.specs.code.Progress as steps;
 ghost use Rattle.host_core.specs.at_once.Steps.{steps_plainly};
 
-use crate::answer::Answer;
-use crate::at_once::{asked, kind_of, node_of, replies_are_of_the_tree, step_plainly};
-use crate::begun::{Begun, go_on};
+use crate::at_once::{
+    PlainProgress, asked, kind_of, node_of, replies_are_of_the_tree, step_plainly,
+};
+use crate::begun::{Begun, BegunProgress, go_on};
 use crate::call_progress::CallProgress;
-use crate::parts::Parts;
+use crate::host_parts::HostParts;
+use crate::noted_reply::NotedReply;
 use blk_base::NoMemory;
 use flush_actor::{CallKind, FlushPart};
 use order_model::{Outlet, Request};
@@ -40,7 +42,7 @@ fn stop_of(flush: &FlushPart, kind: CallKind) -> Option<CallProgress>
 
 // The step of a call that has begun.
 fn go_further<O: Outlet<Request>>(
-    parts: &mut Parts,
+    parts: &mut HostParts,
     thread: u32,
     begun: &Begun,
     out: &mut O,
@@ -55,9 +57,9 @@ fn go_further<O: Outlet<Request>>(
     ensures rest { O.rest out.new ≡ O.rest out.old }
 {
     match go_on(&mut parts.journal, &mut parts.pages, thread, begun, out)? {
-        crate::begun::BegunProgress::Answered => Ok(CallProgress::Done),
-        crate::begun::BegunProgress::Full => Ok(CallProgress::Full),
-        crate::begun::BegunProgress::Sent {
+        BegunProgress::Answered => Ok(CallProgress::Done),
+        BegunProgress::Full => Ok(CallProgress::Full),
+        BegunProgress::Sent {
             id,
             passed,
             barrier,
@@ -66,14 +68,14 @@ fn go_further<O: Outlet<Request>>(
             passed,
             barrier,
         }),
-        crate::begun::BegunProgress::Waiting(cause) => Ok(CallProgress::Waiting(cause)),
+        BegunProgress::Waiting(cause) => Ok(CallProgress::Waiting(cause)),
     }
 }
 
 // The step of a plain call that nothing refuses and that takes so many zones, as entry `number`.
 fn perform(
     alloc: Global,
-    parts: &mut Parts,
+    parts: &mut HostParts,
     number: u64,
     call: &Call,
     zones: u32,
@@ -89,25 +91,23 @@ fn perform(
     ensures queue { IfOk result (λ f. is_queue_full f ≡ false) }
 {
     replies_are_of_the_tree();
-    let Parts {
+    let HostParts {
         journal,
         volume,
         pages,
         owners,
     } = parts;
     match step_plainly(alloc, journal, volume, pages, owners, number, call, zones)? {
-        crate::at_once::PlainProgress::Answered(reply) => Ok(CallProgress::Answered(Answer::of(
-            alloc, reply,
-        )?)),
-        crate::at_once::PlainProgress::Full => Ok(CallProgress::Full),
-        crate::at_once::PlainProgress::Waiting(cause) => Ok(CallProgress::Waiting(cause)),
+        PlainProgress::Answered(reply) => Ok(CallProgress::Answered(NotedReply::of(alloc, reply)?)),
+        PlainProgress::Full => Ok(CallProgress::Full),
+        PlainProgress::Waiting(cause) => Ok(CallProgress::Waiting(cause)),
     }
 }
 
 // The first step of a call.
 fn start(
     alloc: Global,
-    parts: &mut Parts,
+    parts: &mut HostParts,
     number: u64,
     call: &Call,
 ) -> Result<CallProgress, NoMemory>
@@ -122,7 +122,7 @@ fn start(
     replies_are_of_the_tree();
     let (refusal, zones) = asked(&parts.volume, call);
     if let Some(reply) = refusal {
-        return Ok(CallProgress::Answered(Answer::of(alloc, reply)?));
+        return Ok(CallProgress::Answered(NotedReply::of(alloc, reply)?));
     }
     let kind = kind_of(call);
     if !kind.is_begun() {
@@ -137,7 +137,7 @@ fn start(
 // 0.
 pub fn step_call<O: Outlet<Request>>(
     alloc: Global,
-    parts: &mut Parts,
+    parts: &mut HostParts,
     number: u64,
     thread: u32,
     begun: &Option<Begun>,

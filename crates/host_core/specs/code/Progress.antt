@@ -26,7 +26,7 @@ use Rattle.host_core.specs.at_once.Steps.{CallParts, steps_plainly}
 use Rattle.host_core.specs.at_once.Steps as plain
 use Rattle.host_core.specs.declared.call_progress.CallProgress.{CallProgress}
 use Rattle.host_core.specs.declared.call_progress.CallProgress.TheVariants as found
-use Rattle.host_core.specs.declared.parts.Parts.{Parts}
+use Rattle.host_core.specs.declared.host_parts.HostParts.{HostParts}
 
 -- how far the call came: it is over; it began; it sent a page as this request, with the rest of its list and whether it has
 -- sent a barrier; or it waits
@@ -121,11 +121,11 @@ is_queue_full (found.Waiting reasons.QueueFull) = true
 is_queue_full other = false
 
 -- the parts as the code has them
-abbrev pub parts_now : Parts → CallParts
+abbrev pub parts_now : HostParts → CallParts
 parts_now p = record { journal = p.journal.part; volume = p.volume; pages = p.pages.pages; owners = p.owners.items }
 
 -- A step leaves what was set when the host was made, and each thread has its wait.
-pub record KeepsHost (old new : Parts) : Type 0 where
+pub record KeepsHost (old new : HostParts) : Type 0 where
   pub made_with : new.journal.made_with ≡ old.journal.made_with
   pub journal : new.journal.journal ≡ old.journal.journal
   pub blocks : new.journal.blocks ≡ old.journal.blocks

@@ -5,7 +5,7 @@ use page_cache::Pages;
 
 /// The journal's part, the volume, its cached pages, and for each zone the transaction that took it for a file.
 #[derive(Drop)]
-pub struct Parts {
+pub struct HostParts {
     pub journal: JournalPart,
     pub volume: PlainVolume,
     pub pages: Pages,

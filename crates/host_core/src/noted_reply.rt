@@ -10,12 +10,12 @@ use tree_model::Reply;
 
 /// A reply of the tree, twice: one is given to the caller, and one is noted.
 #[derive(Drop)]
-pub struct Answer {
+pub struct NotedReply {
     given: Reply,
     noted: Reply,
 }
 
-impl Model for Answer {
+impl Model for NotedReply {
     ghost use Rattle.std.specs.Prelude.{◌≡◌, true};
     ghost use Rattle.tree_model.specs.declared.call.Reply.{Reply};
     ghost use Rattle.host_core.specs.at_once.Replies.{is_of_tree};
@@ -27,15 +27,15 @@ impl Model for Answer {
     ghost invariant = { λ a. (a.noted ≡ a.given) × (is_of_tree a.given ≡ true) };
 }
 
-impl Answer {
+impl NotedReply {
     /// That of a reply. Only one that has a list takes memory.
-    pub fn of(alloc: Global, reply: Reply) -> Result<Answer, NoMemory>
+    pub fn of(alloc: Global, reply: Reply) -> Result<NotedReply, NoMemory>
         requires { is_of_tree reply ≡ true }
         ensures ok { IfOk result (λ a. a ≡ reply) }
         ensures err { OnErr result (has_list reply ≡ true) }
     {
         let noted = copy_reply(alloc, &reply)?;
-        Ok(Answer {
+        Ok(NotedReply {
             given: reply,
             noted,
         })
@@ -47,7 +47,7 @@ impl Answer {
         ensures noted { result.1 ≡ self }
         ensures tree { is_of_tree self ≡ true }
     {
-        let Answer { given, noted } = self;
+        let NotedReply { given, noted } = self;
         (given, noted)
     }
 }
