@@ -16,6 +16,7 @@ ending_of (replies.ReadOnly id) = machine.ReadOnly id
 ending_of replies.SessionFull = machine.SessionFull
 ending_of other = machine.Answered other
 
+-- that a call begins, or what ended it
 abbrev pub what_of : EntryKind → machine.What Reply
 what_of Begin = machine.Begins
 what_of (End reply) = machine.Ends (ending_of reply)

@@ -39,6 +39,7 @@ host_made v ps r programs =
 abbrev pub model_now : HostNow → Model PlainTree VolumeNow Call Reply
 model_now h = model_of (λ (c : Call). c) h.host.volume.geometry
 
+-- what does not change in its steps
 abbrev pub setup_now : HostNow → Setup
 setup_now h = record {
   journal = h.journal;

@@ -23,6 +23,7 @@ abbrev pub begun_stand : JournalPart → Wait → Stand
 begun_stand j w =
     elim w.need as (λ _. Stand) [ Some id ↦ Durable id | None ↦ elim w.target as (λ _. Stand) [ Some k ↦ for_commit j k | None ↦ Sending ] ]
 
+-- how a caller stands whose call has begun, or who has no such call
 abbrev pub stand_of : JournalPart → Wait → Option Begun → Stand
 stand_of j w None = Fresh
 stand_of j w (Some b) = begun_stand j w

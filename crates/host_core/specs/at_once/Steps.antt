@@ -35,10 +35,12 @@ pub data PlainProgress : Type 0 where
   Full : PlainProgress
   Waits : Cause → PlainProgress
 
+-- what a step left of the parts, and how far the call came
 pub record Went : Type 0 where
   pub parts : CallParts
   pub progress : PlainProgress
 
+-- the running transaction is to be closed
 abbrev pub wanting : JournalPart → JournalPart
 wanting j = record j { running = wanted_one j.running }
 
@@ -59,11 +61,13 @@ done_on p n v t = record {
   owners = taken_zones p.journal.running.number p.pages p.owners t.pages;
 }
 
+-- the call is done as entry n, and answered
 abbrev pub does : CallParts → ℕ → Call → Went
 does p n c =
     let x = called p.volume (number_in (tree_of_now p.volume) n) p.journal.running.number c in
     record { parts = done_on p n x.change.volume x.change.touched; progress = Answered x.reply }
 
+-- it waits for this cause, or the session may have no more requests
 abbrev pub hinders : CallParts → Cause → Went
 hinders p cause =
     if at_limit p.journal.flush then record { parts = p; progress = Full }

@@ -8,6 +8,7 @@ use Rattle.host_machine.specs.State.{Host, Setup, Begun}
 use Rattle.host_core.specs.begun.Steps.{Gone, BegunProgress, Answered, Full, Sent, Waits}
 
 module _ {T V C R : Type 0} (M : Model T V C R) (u : Setup) where
+  -- the host with the journal's part and the pages that the step left
   abbrev pub with_parts : Host V C R → Gone → Host V C R
   with_parts s g = record {
     journal = g.part;
@@ -29,5 +30,6 @@ module _ {T V C R : Type 0} (M : Model T V C R) (u : Setup) where
   }
   after_progress s t c rest b (Waits cause) = record { host = s; step = outcomes.Waiting cause }
 
+  -- the host after a step of the thread's call
   abbrev pub after_going : Host V C R → ℕ → C → List C → Begun → Gone → Stepped V C R
   after_going s t c rest b g = after_progress (with_parts s g) t c rest b g.progress

@@ -45,6 +45,7 @@ keeps_all old new = new ≡ record { made_with = old.made_with; journal = old.jo
 abbrev pub waiting : JournalPart → ℕ → Wait → JournalPart
 waiting j t w = record j { flush = record j.flush { waits = set j.flush.waits t w } }
 
+-- the running transaction is to be closed
 abbrev pub wanting : JournalPart → JournalPart
 wanting j = record j { running = wanted_one j.running }
 
@@ -104,6 +105,7 @@ sends_page full j pages b next =
     let barrier = is_data b.kind && is_none (unsent_on pages next.1) in
     record { part = page_out j next.0 barrier; pages = put_page pages (marked next.0 Firm); progress = Sent (length j.flush.requests) next.1 (b.sent_barrier || barrier) }
 
+-- the next page on its list is sent; where none is left, the call does what it is to do then
 abbrev pub walks : Bool → JournalPart → List CachedPage → ℕ → Wait → Begun → Gone
 walks full j pages t w b =
     elim (unsent_on pages b.list) as (λ _. Gone) [
@@ -113,6 +115,7 @@ walks full j pages t w b =
 
 -- ---- a step
 
+-- it waits for the request or the transaction that is fixed; until one is, it sends its pages
 abbrev pub goes_on : Bool → JournalPart → List CachedPage → ℕ → Wait → Begun → Gone
 goes_on full j pages t w b =
     elim w.need as (λ _. Gone) [

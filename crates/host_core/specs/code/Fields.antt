@@ -57,6 +57,7 @@ pub record IsNext (threads : List Thread) (at : ℕ) (t : Thread) (c : Call) (re
   pub there : slice_get threads at ≡ Some t
   pub calls : drop t.ended t.program.items ≡ c ∷ rest
 
+-- the host that these fields make up
 abbrev pub host_of : CommitActor → VolumeNow → Cache → List ℕ → List Entry → List ℕ → List Thread → HostNow
 host_of j v ps owners history cuts threads = record {
   made_with = j.made_with;

@@ -36,6 +36,7 @@ pub data Progress : Type 0 where
   Sent : ℕ → List (ℕ × ℕ) → Bool → Progress
   Waits : Cause → Progress
 
+-- what a step left of the parts, and how far the call came
 pub record Went : Type 0 where
   pub parts : CallParts
   pub progress : Progress
@@ -49,18 +50,21 @@ stop_of taken kind =
     else if is_reading kind then None
     else option_map ReadOnly (first_failed taken)
 
+-- how far a begun call came, as one of all calls
 abbrev pub progress_of_begun : begun.BegunProgress → Progress
 progress_of_begun begun.Answered = Over (Answered replies.Ok)
 progress_of_begun begun.Full = Over SessionFull
 progress_of_begun (begun.Sent id list barrier) = Sent id list barrier
 progress_of_begun (begun.Waits cause) = Waits cause
 
+-- the step of a begun call: volume and owners stay
 abbrev pub went_on : CallParts → Gone → Went
 went_on p g = record {
   parts = record { journal = g.part; volume = p.volume; pages = g.pages; owners = p.owners };
   progress = progress_of_begun g.progress;
 }
 
+-- how far a plain call came, as one of all calls
 abbrev pub progress_of_plain : plain.PlainProgress → Progress
 progress_of_plain (plain.Answered reply) = Over (Answered reply)
 progress_of_plain plain.Full = Over SessionFull
@@ -145,12 +149,14 @@ noted s t c what th w = record s {
   threads = set s.threads t th;
 }
 
+-- what the step answers where this ended the call
 abbrev pub answer_of : {R : Type 0} → Ending R → outcomes.Step R
 answer_of (Answered r) = outcomes.Done r
 answer_of Down = outcomes.Down
 answer_of (ReadOnly id) = outcomes.ReadOnly id
 answer_of SessionFull = outcomes.SessionFull
 
+-- the begun call with what is left of its list, and whether it has sent a barrier
 abbrev pub passed_on : Option Begun → List (ℕ × ℕ) → Bool → Option Begun
 passed_on begun list barrier = option_map (λ (b : Begun). record b { list = list; sent_barrier = barrier }) begun
 

@@ -1,6 +1,7 @@
 -- What a step of the commit actor does to what stands beside the journal.
 use Rattle.std.specs.Prelude.{ℕ, Bool, List, [], ◌∷◌, ◌++◌, Option, Some, None, if◌then◌else◌}
 
+-- one more closed transaction, with this entry as its last, where the step noted one
 abbrev pub cuts_after : Bool → ℕ → List ℕ → List ℕ
 cuts_after noted now cuts = if noted then cuts ++ now ∷ [] else cuts
 

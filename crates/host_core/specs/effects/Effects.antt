@@ -27,6 +27,7 @@ noted_part t j = record j {
   running = noted_in t j.running;
 }
 
+-- the actor with this spare room and this part of the journal
 abbrev pub with_part : CommitActor → ℕ → JournalPart → CommitActor
 with_part a spare j = record { made_with = a.made_with; journal = a.journal; blocks = a.blocks; spare = spare; part = j }
 

@@ -10,6 +10,7 @@ use Rattle.host_core.specs.effects.Effects.{noted_part, dropped_pages, written_p
 abbrev pub file_block : Page → FileBlock
 file_block x = record { birth = x.birth; index = x.index; block = x.zone }
 
+-- what a call touched, as the host has it
 abbrev pub told : Touched → host.Touched
 told t = record { blocks = t.blocks; freed = t.freed; revoked = t.revoked; pages = map file_block t.pages; dropped = map file_block t.dropped; nodes = t.nodes }
 

@@ -25,5 +25,6 @@ hindrance_by w zmap most j v c =
     let needs = needed v c in
     if nat_lt free needs then Some (causes.Quarantine (needs - free)) else None
 
+-- the same by the actor's journal and the volume's division
 abbrev pub hindrance_of : CommitActor → VolumeNow → Call → Option Cause
 hindrance_of a v c = hindrance_by (writers a.made_with) v.geometry.zmap (quota a.made_with) a.part v c

@@ -12,6 +12,7 @@ use Rattle.host_core.specs.declared.begun.waiting.Goal.TheVariants as goals
 use Rattle.host_core.specs.declared.begun.waiting.BegunProgress.{BegunProgress}
 use Rattle.host_core.specs.declared.begun.waiting.BegunProgress.TheVariants as told
 
+-- what the call does when no page is left, as the host's machine has it
 abbrev pub goal_is : Goal → machine.Goal
 goal_is (goals.AwaitCommit k) = machine.AwaitCommit k
 goal_is goals.AnswerOk = machine.AnswerOk
