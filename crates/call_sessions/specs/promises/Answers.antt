@@ -36,6 +36,7 @@ AnsweredAt h e t c = EndsAt h.history e t c (Answered replies.Ok) × (is_begun (
 pub record WasAnswered (s : Opening) (h : Host VolumeNow Call Reply) (e t : ℕ) (c : Call) : Type 0 where
   pub place : ℕ
   pub began : IsBeginOf h.history place e t c
+  -- the begun call, by the number of its entry, its kind and its node
   pub begun : Begun
   pub number : begun.begin ≡ place + 1
   pub kind : begun.kind ≡ kind_of c
@@ -46,6 +47,7 @@ pub record WasAnswered (s : Opening) (h : Host VolumeNow Call Reply) (e t : ℕ)
 -- call a flush behind it was answered.
 pub record HasCommit (h : Host VolumeNow Call Reply) (b e : ℕ) (durable : Bool) : Type 0 where
   pub transaction : ℕ
+  -- the request that is its commit block
   pub request : ℕ
   pub commit : slice_get h.journal.flush.notes request ≡ Some (notes.Commit transaction)
   -- the number of its last entry
@@ -57,6 +59,7 @@ pub record HasCommit (h : Host VolumeNow Call Reply) (b e : ℕ) (durable : Bool
 pub record HasOkCause (h : Host VolumeNow Call Reply) (e t : ℕ) (c : Call) : Type 0 where
   pub place : ℕ
   pub began : IsBeginOf h.history place e t c
+  -- its cause: such a commit block, and a flush after that for a sync call
   pub commits : HasCommit h place e (is_durable (kind_of c))
 
 -- all that a call covers stands below a flush that was answered; or it covers nothing
@@ -68,6 +71,7 @@ IsFlushed s h b =
 -- What the answers of a session promise. `kept` is what its rules keep of a power cut.
 pub record KeepsPromises (s : Opening) (h : Host VolumeNow Call Reply) : Type 0 where
   pub kept : KeepsCalls s h
+  -- each barrier or sync call that was answered Ok began before, and has what its answer stands for
   pub answered : (e t : ℕ) (c : Call) → AnsweredAt h e t c → WasAnswered s h e t c
   -- a sync call: a flush was answered behind all that it covers; or it covers nothing
   pub flushed : (e t : ℕ) (c : Call) (ok : AnsweredAt h e t c) → is_durable (kind_of c) ≡ true → IsFlushed s h (answered e t c ok).begun

@@ -30,5 +30,6 @@ pub record ReusesZones {A T V C R : Type 0} (o : Over A T V C R) (Stands : V →
   -- an orderless page goes out only behind the commit block of the transaction that took its zone
   pub orderless : (closed : List Transaction) →
       OrderlessCommitted (noted_history o Stands (steps o first events).history (steps o first events).cuts) (session o Stands closed (steps o first events))
+  -- wherever the power is cut: a page that is kept in such a zone is kept with the commit block of the entry's transaction
   pub kept : (closed : List Transaction) →
       KeptWithEntry (noted_history o Stands (steps o first events).history (steps o first events).cuts) (session o Stands closed (steps o first events)) (Frees o first events)

@@ -29,6 +29,7 @@ steps_of (steers.Transfer pick) = choices.Transfer pick ∷ []
 steps_of (steers.Persist pick) = choices.Persist pick ∷ []
 steps_of (steers.Default count) = replicate count choices.Default
 
+-- those of all words of a line, in order
 abbrev pub choices_of : List Steer → List Choice
 choices_of [] = []
 choices_of (s ∷ ss) = steps_of s ++ choices_of ss
@@ -39,8 +40,11 @@ choices_of (s ∷ ss) = steps_of s ++ choices_of ss
 -- the commands of its recovery went to the device with these steps, and it ended behind them. Else the device was read, and
 -- nothing more.
 pub record IsAttempt {S : Type 0} (m : Machine S) (base : ℕ) (image : List (List ℕ)) (steer : List Choice) (first last : S) : Type 0 where
+  -- the journal has a log
   pub full : (s : JournalSuper) → super_of (body_at image base) ≡ Ok s → s.start ≢ 0 → IsRun m (commands base image) steer true first last
+  -- its log is empty
   pub empty : (s : JournalSuper) → super_of (body_at image base) ≡ Ok s → s.start ≡ 0 → OnlyReads (m.seen first) (m.seen last)
+  -- its superblock has a fault
   pub none : (fault : JournalFault) → super_of (body_at image base) ≡ Err fault → OnlyReads (m.seen first) (m.seen last)
 
 -- what is told of it
@@ -60,6 +64,7 @@ AreAttempts {S = S} m fresh base image (l ∷ ls) (a ∷ others) left =
 
 -- These attempts were made, and this volume was mounted behind them.
 pub record IsMountedBehind {S : Type 0} (m : Machine S) (fresh : List (List ℕ) → S) (base : ℕ) (image : List (List ℕ)) (lines : List (List Steer)) (attempts : List Attempt) (v : VolumeState) : Type 0 where
+  -- the image that the last of them left
   pub left : List (List ℕ)
   pub made : AreAttempts m fresh base image lines attempts left
   pub mounts : mounted left ≡ Ok v
@@ -73,6 +78,7 @@ attempted_by depth base image steer (Err fault) = device_over depth image
 attempted_by depth base image steer (Ok s) =
     if s.start == 0 then device_over depth image else (driven epoch_machine steer (record { dev = device_over depth image; rest = commands base image })).dev
 
+-- the same by the superblock that the image has of its journal
 unfoldable pub attempted : ℕ → ℕ → List (List ℕ) → List Choice → DeviceState
 attempted depth base image steer = attempted_by depth base image steer (super_of (body_at image base))
 
