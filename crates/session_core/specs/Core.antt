@@ -51,6 +51,7 @@ start_of s = made_start (geometry_of s) s.journal s.header.limit s.header.queue 
 abbrev pub setup_for : SessionScript → DeviceSetup
 setup_for s = record { depth = s.header.depth; limit = s.header.limit; fail_at = s.header.fail; bad_read = None; cut_at = s.header.cut }
 
+-- a new model device over the image of the script's volume
 abbrev pub device_for : SessionScript → DeviceState
 device_for s = epochs.opened (made_image (geometry_of s) s.journal s.wide) (setup_for s)
 
@@ -58,6 +59,7 @@ device_for s = epochs.opened (made_image (geometry_of s) s.journal s.wide) (setu
 abbrev pub flash_setup_for : SessionScript → ℕ → FlogSetup
 flash_setup_for s segments = record { depth = s.header.depth; limit = s.header.limit; segments = segments; fail_at = s.header.fail; cut_at = s.header.cut }
 
+-- a new flash log of so many segments over the image of the script's volume
 abbrev pub flash_for : SessionScript → ℕ → FlogState
 flash_for s segments = flash.opened (made_image (geometry_of s) s.journal s.wide) (flash_setup_for s segments)
 

@@ -75,13 +75,16 @@ pub record IsAllShown (s : SessionScript) (end : EndState) (m : Medium) (kept : 
 -- it, had after no entry up to e: so only later ones can have written them.
 pub record HasNewerBytes (s : SessionScript) (end : EndState) (found : ℕ) (tree : Tree) (e : ℕ) : Type 0 where
   pub path : List (List ℕ)
+  -- the node to which the path leads in the tree that is shown, and the block of it that has these bytes
   pub node : ℕ
   pub leads : node_of_path tree path ≡ Ok node
   pub index : ℕ
   pub bytes : List ℕ
   pub has : block_at tree node index ≡ Some bytes
+  -- the file to which the path leads in the tree after the calls of the first `found` transactions
   pub file : ℕ
   pub led : node_of_path (tree_behind (opening_of s) end.host found) path ≡ Ok file
+  -- up to entry e that file's block never had these bytes
   pub newer : (v : ℕ) → v ≤ e → content_at (opening_of s) end.host v file index ≢ bytes
 
 -- A tree shows what only entries after e can have done: newer bytes, or paths and metadata of no tree up to entry e.
@@ -98,9 +101,11 @@ told_of s = told_by s (core s)
 abbrev pub submitted_of : SessionScript → Session
 submitted_of s = submitted_in s (core s)
 
+-- how many transactions of that run have their commit block on this medium
 abbrev pub kept_on : SessionScript → Medium → ℕ
 kept_on s m = kept_in s (core s) m
 
+-- a write of that run, made after entry e, survived on this medium
 abbrev pub IsLaterSurvived : SessionScript → Medium → ℕ → Type 0
 IsLaterSurvived s m e = HasLaterKept s (core s) m e
 

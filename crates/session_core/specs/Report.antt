@@ -24,12 +24,18 @@ pub record IsReportOf (s : SessionScript) (end : EndState) (r : SessionReport) :
   pub programs : r.host.programs ≡ s.programs
   pub sched : IsSchedRecord end.sched r.sched
   pub image : r.cut.image.items ≡ end.dev.surface
+  -- for each block the id of the part whose body it holds, where it holds one
   pub origins : r.cut.origins ≡ origin_ids end.dev.took end.dev.origins
+  -- what the device took, transferred and sent, and its steps
   pub trace : IsTraceOf end.dev r.cut.trace
+  -- what the power cut left mounts as this volume
   pub volume : mounted r.cut.image.items ≡ Ok r.volume
   pub recovered : r.image ≡ recovered_image r.cut.image.items
+  -- so does what recovery left
   pub again : mounted r.image ≡ Ok r.volume
+  -- how many transactions the journal on the medium tells of
   pub found : r.found ≡ found_in (geometry_of s).zones 1 r.cut.image.items
+  -- how each thread stands at the end
   pub standings : r.standings.items ≡ standings_of r.host (length s.programs)
 
 -- Its attempts of recovery are those that the script asks for, each on a fresh device, and the same volume is mounted behind
@@ -40,6 +46,7 @@ HasAttempts m fresh s r = IsMountedBehind m fresh (geometry_of s).zones r.cut.im
 -- on model devices these are a function of what the power cut left
 pub record HasModelAttempts (s : SessionScript) (r : SessionReport) : Type 0 where
   pub attempts : r.attempts.items ≡ attempts_of s.header.depth (geometry_of s).zones r.cut.image.items s.recovers
+  -- the image that the attempts leave mounts as the same volume
   pub left : mounted (image_after s.header.depth (geometry_of s).zones r.cut.image.items s.recovers) ≡ Ok r.volume
 
 -- its attempts on flash logs of so many segments, or else on model devices, of the script's depth
@@ -64,5 +71,6 @@ ReportKeepsOrder s end r = KeepsOrder (opening_of s).image end.host.journal.flus
 -- The tree of what was recovered is alike to the one after the calls of the first transactions, as many as were found.
 pub record HasPrefix (s : SessionScript) (end : EndState) (r : SessionReport) : Type 0 where
   pub tree : Tree
+  -- this is the tree of the volume that mounts from what the power cut left
   pub found : image_tree r.cut.image.items ≡ Ok tree
   pub alike : AreAlike (tree_behind (opening_of s) end.host r.found) tree

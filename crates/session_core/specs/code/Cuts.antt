@@ -32,9 +32,13 @@ medium_left r = record { image = r.cut.image; origins = r.cut.origins }
 pub record HostFacts (s : SessionScript) (h : Host VolumeNow Call Reply) : Type 0 where
   pub events : List Event
   pub host_is : h ≡ made_session (geometry_of s) s.journal s.wide s.header.limit s.programs events
+  -- what the answers of its session promise
   pub promises : KeepsPromises (opening_of s) h
+  -- the Ok of a call that covers metadata has its commit block
   pub ok_causes : (e t : ℕ) (c : Call) → AnsweredAt h e t c → is_data (kind_of c) ≡ false → HasOkCause h e t c
+  -- calls that end with no answer of the tree have a cause
   pub causes : HaveCauses kind_of s.header.limit (HadCome (made_session (geometry_of s) s.journal s.wide s.header.limit s.programs) events) h
+  -- the history goes by the programs and by the tree of calls
   pub follows : FollowsTree (opening_of s) s.programs h
   pub legal : IsLegal (room_of (geometry_of s)) s.width (program_of s.programs) (events_in h.history)
 
@@ -42,12 +46,18 @@ pub record HostFacts (s : SessionScript) (h : Host VolumeNow Call Reply) : Type 
 -- tells how many transactions it has, and it has the tree and the files of these.
 pub record CutFacts (s : SessionScript) (h : Host VolumeNow Call Reply) (m : Medium) : Type 0 where
   pub host : HostFacts s h
+  -- the volume on it is divided as the script says
   pub volume : divided m.image ≡ Ok (geometry_of s)
   pub journal : has_journal (geometry_of s).zones m.image ≡ true
   pub mounts : (v : VolumeState) × (mounted m.image ≡ Ok v)
+  -- its journal tells of as many transactions as have their commit block on the medium
   pub counted : found_in (geometry_of s).zones 1 m.image ≡ kept_count (geometry_of s) s.journal s.wide h m
+  -- these are the first ones
   pub transactions : IsFound (submitted_by (geometry_of s) s.journal s.wide [] h) m (kept_count (geometry_of s) s.journal s.wide h m)
+  -- the tree of the volume that mounts is alike to the one after them
   pub tree : (tree : Tree) × (image_tree m.image ≡ Ok tree) × AreAlike (kept_tree (geometry_of s) s.journal s.wide h m) tree
+  -- before the journal, the image that mounting leaves is what a replay of the log makes of the medium
   pub recovered : (closed : List Transaction) → IsRecovered (submitted_by (geometry_of s) s.journal s.wide closed h) m (disk_of (recovered_image m.image))
+  -- where that image keeps the files, the tree shows them
   pub shown : (closed : List Transaction) (tree : Tree) → KeepsFiles (geometry_of s) s.journal s.wide closed h m (disk_of (recovered_image m.image)) → image_tree m.image ≡ Ok tree
       → (alike : AreAlike (kept_tree (geometry_of s) s.journal s.wide h m) tree) → ShowsFiles (geometry_of s) s.journal s.wide closed h m tree alike.to

@@ -21,7 +21,9 @@ pub record EndsIn (end : EndState) (r : SessionEnd) : Type 0 where
   pub host : r.host.host ≡ end.host
   pub sched : IsSchedRecord end.sched r.sched
   pub image : r.cut.image ≡ end.dev.surface
+  -- for each block the id of the part whose body it holds, where it holds one
   pub origins : r.cut.origins ≡ origin_ids end.dev.took end.dev.origins
+  -- what the device took, transferred and sent, and its steps
   pub trace : IsTraceOf end.dev r.cut.trace
 
 -- what the power cut left keeps the order of the requests, and what a flush completed

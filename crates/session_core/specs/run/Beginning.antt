@@ -22,12 +22,17 @@ pub record Beginning (K S : Type 0) : Type 0 where
 
 -- The volume and the journal can be opened, the programs write bytes, and scheduler and device are new.
 pub record CanBegin {K S : Type 0} (k : SchedSteps K) (m : Machine S) (sched_valid : K → Type 0) (dev_valid : S → Type 0) (b : Beginning K S) : Type 0 where
+  -- what the journal writes, its format reads
   pub written : AreWritten b.opening.format b.opening.writers
+  -- a volume of the root alone, whose blocks are the first of the image
   pub opened : IsOpenedVolume b.opening b.start.volume
+  -- an empty journal after it, with sequences for all transactions that a session of this limit can have
   pub journal : HasEmptyJournal b.opening b.start.ring b.start.limit
   pub bytes : WriteBytes b.start.programs
+  -- scheduler and device are in states that they may be in
   pub sched_is : sched_valid b.sched
   pub dev_is : dev_valid b.dev
+  -- they are new, and allow as many requests as the session may have
   pub starts : CanStart b.opening b.start (k.seen b.sched) (m.seen b.dev)
 
 -- The session on this opening and start can begin on this scheduler and this device, with queues of this capacity and so

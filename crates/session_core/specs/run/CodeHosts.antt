@@ -13,13 +13,17 @@ use Rattle.call_sessions.specs.Sessions.{host_behind}
 
 -- The session has the journal of this superblock.
 pub record HasJournal (s : Opening) (made_with : JournalSuper) : Type 0 where
+  -- the sequence of transaction 1
   pub sequence : made_with.sequence ≡ s.sequence
+  -- how journal blocks are written
   pub writers_are : writers made_with ≡ s.writers
+  -- how many log blocks a transaction may have
   pub quota_is : quota made_with ≡ s.quota
 
 -- The host is where the session's machine is after these steps.
 pub record IsInSession (s : Opening) (v : VolumeNow) (ring : LogRing) (limit : ℕ) (programs : List (List Call)) (events : List Event) (h : HostNow) : Type 0 where
   pub host : h.host ≡ host_behind s v ring limit programs events
   pub calls : h.programs ≡ programs
+  -- the journal begins at the block after the zones
   pub behind_zones : h.journal ≡ s.geometry.zones
   pub journal : HasJournal s h.made_with

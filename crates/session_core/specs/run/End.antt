@@ -17,7 +17,9 @@ pub record IsEndOf {K S : Type 0} (k : SchedSteps K) (m : Machine S) (r : Sessio
   pub host : end.host.host ≡ r.host
   pub sched : IsSchedRecord (k.seen r.sched) end.sched
   pub image : end.cut.image ≡ (m.seen r.dev).surface
+  -- for each block the id of the part whose body it holds, where it holds one
   pub origins : end.cut.origins ≡ origin_ids (m.seen r.dev).took (m.seen r.dev).origins
+  -- what the device took, transferred and sent, and its steps
   pub trace : IsTraceOf (m.seen r.dev) end.cut.trace
 
 -- What the power cut left is order-closed for the requests that the host of this state submitted over the session's

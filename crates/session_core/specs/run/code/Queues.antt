@@ -19,6 +19,7 @@ pub record QueuesNow : Type 0 where
   pub completions : List Completion
   pub kept : Option Completion
 
+-- empty queues of this capacity
 abbrev pub no_items : ℕ → QueuesNow
 no_items capacity = record { capacity = capacity; submission = []; dispatched = []; kept_command = None; completions = []; kept = None }
 

@@ -22,5 +22,6 @@ pub record IsReached {K S : Type 0} (k : SchedSteps K) (m : Machine S) (sched_va
   pub begins : CanBegin k m sched_valid dev_valid b
   pub events : List CoreEvent
   pub state : now ≡ state_after k m b events
+  -- the steps of the host alone
   pub steps : List Event
   pub host : IsHostOf b steps h

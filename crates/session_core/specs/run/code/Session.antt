@@ -24,6 +24,7 @@ session_of h q sched dev = record {
 }
 
 module _ {A B : Type 0} (k : schedulers.Ghosts A) (d : devices.Ghosts B) where
+  -- the running session as a state of the machine
   abbrev pub state_of : RunningSession A B → SessionState k.State d.State
   state_of r = session_of r.host r.queues (k.state r.sched) (d.state r.dev)
 

@@ -17,17 +17,24 @@ use Rattle.session_core.specs.run.machine.Machine.{SessionState, Start}
 
 -- what the steps of a device keep, from any state that it may be in
 pub record IsDevice {S : Type 0} (m : Machine S) (valid : S → Type 0) : Type 0 where
+  -- while it has room, it receives each command that it may be given
   pub receives : (s : S) (c : Command) → valid s → IsReceivable (m.seen s) c → m.has_room s ≡ true → valid (m.received s c) × Receives (m.seen s) c (m.seen (m.received s c))
+  -- a pick that is there is transferred, or its transfer fails
   pub transfers : (s : S) (pick : ℕ) → valid s → pick < m.can_transfer s → valid (m.transferred s pick) × Transfers (m.seen s) (m.seen (m.transferred s pick))
+  -- a write to the medium, of a pick that is there, leaves what was transferred as it is
   pub persists : (s : S) (pick : ℕ) → valid s → pick < m.can_persist s → valid (m.persisted s pick) × Persists (m.seen s) (m.seen (m.persisted s pick))
+  -- a pick that is not there changes nothing
   pub no_transfer : (s : S) (pick : ℕ) → m.can_transfer s ≤ pick → m.transferred s pick ≡ s
   pub no_persist : (s : S) (pick : ℕ) → m.can_persist s ≤ pick → m.persisted s pick ≡ s
+  -- it hands out its next completion, or none
   pub answers : (s : S) → valid s → valid (m.answered s) × Answers (m.seen s) (m.next_answer s) (m.seen (m.answered s))
+  -- each block holds the body of a part that was transferred, or what the device was made with
   pub surface : (s : S) → valid s → IsSurface (m.seen s)
 
 -- Requests on their way: what was submitted was accepted or waits to be; what was sent out was taken, waits to be, or is
 -- kept. No more are submitted than the limit says, which scheduler and device allow.
 pub record RequestsFit (requests : List Request) (limit : ℕ) (q : QueuesState) (p : SchedSeen) (d : Seen) : Type 0 where
+  -- the queues count the requests that were submitted
   pub counted : q.next ≡ length requests
   pub submitted : p.accepted ++ q.submission ≡ requests
   pub sent : p.sent_out ≡ d.took ++ q.dispatched ++ option_to_list q.kept
@@ -59,6 +66,7 @@ pub record SessionFits {K S : Type 0} (k : SchedSteps K) (m : Machine S) (r : Se
 -- take as many ids as the session may have requests; so may the scheduler, which is new, however many may wait in it.
 pub record CanStart (s : Opening) (b : Start) (p : SchedSeen) (d : Seen) : Type 0 where
   pub image : d.base ≡ s.image
+  -- volume and log are within the image
   pub blocks : s.geometry.zones + b.ring.places.past ≤ length s.image
   pub took : d.took ≡ []
   pub sent : d.sent ≡ []

@@ -72,9 +72,11 @@ left_over f completions = if flush_due f then completions else drop 1 completion
 module _ {K S : Type 0} where
   -- ---- the host
 
+  -- the queue that the host submits to is full
   abbrev pub submission_full : SessionState K S → Bool
   submission_full r = is_full r.queues.capacity r.queues.submission
 
+  -- a step of the host, and what it submitted goes into the submission queue
   abbrev pub by_host : Opening → SessionState K S → Event → SessionState K S
   by_host s r e =
       let h = stepped (call_over s) r.host e in
@@ -92,14 +94,17 @@ module _ {K S : Type 0} where
   abbrev pub may_flush : SessionState K S → Bool
   may_flush r = nat_le (length r.host.journal.flush.taken) r.host.journal.flush.limit
 
+  -- the flush actor does a step, and the completion that it took leaves the queue
   abbrev pub flushed : Opening → SessionState K S → SessionState K S
   flushed s r = record (by_host s r (flush_event r)) { completions = left_over r.host.journal.flush r.completions }
 
   -- ---- the block layer
 
+  -- the scheduler with the queues before and after it
   abbrev pub layer_of : SessionState K S → BlockLayer K
   layer_of r = record { queues = r.queues; sched = r.sched }
 
+  -- the session with its block layer in this state
   abbrev pub with_layer : SessionState K S → BlockLayer K → SessionState K S
   with_layer r l = record r { queues = l.queues; sched = l.sched }
 
@@ -114,6 +119,7 @@ module _ {K S : Type 0} where
   abbrev pub completed : SessionState K S → Completion → SessionState K S
   completed r c = if is_full r.queues.capacity r.completions then record r { kept = Some c } else record r { completions = r.completions ++ c ∷ []; kept = None }
 
+  -- the completion, where there is one, goes into its queue
   abbrev pub completed_option : SessionState K S → Option Completion → SessionState K S
   completed_option r None = r
   completed_option r (Some c) = completed r c
@@ -126,6 +132,7 @@ module _ {K S : Type 0} where
   -- ---- events
 
   module _ (s : Opening) (k : SchedSteps K) (m : Machine S) where
+    -- what an event makes of the session; `Submit` changes nothing
     abbrev pub happens : SessionState K S → CoreEvent → SessionState K S
     happens r (events.Call thread) = if thread == 0 then r else by_host s r (call_step r thread)
     happens r events.Commit = by_host s r (runs.Commit (submission_full r))
@@ -146,6 +153,7 @@ module _ {K S : Type 0} where
 
   -- ---- which steps of the host events are
 
+  -- the step of the host that an event is, where it is one
   abbrev pub host_event : SessionState K S → CoreEvent → List Event
   host_event r (events.Call thread) = if thread == 0 then [] else call_step r thread ∷ []
   host_event r events.Commit = runs.Commit (submission_full r) ∷ []

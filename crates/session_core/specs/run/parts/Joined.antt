@@ -7,9 +7,13 @@ use Rattle.order_model.specs.Device.{Seen, IsSurface, KeepsEpochOrder, KeepsFlus
 
 -- what the laws of devices say of the state that a device is in
 pub record IsLawful (d : Seen) : Type 0 where
+  -- each block holds the body of a part that was transferred, or what the device was made with
   pub surface : IsSurface d
+  -- where a part after a barrier is kept, so are all up to the barrier; parts of one block are kept in order
   pub epochs : KeepsEpochOrder d
+  -- where a flush completed, all before it is kept
   pub flush : KeepsFlush d
+  -- each id completes at most once; only moved parts complete as moved, and only such are kept
   pub completes : Completes d
 
 -- What the scheduler accepted are the first requests that were submitted, what the device took are the first commands that were
