@@ -38,12 +38,14 @@ pub record HasRoom (limit : ℕ) (room : SharedRoom) : Type 0 where
 -- what these events make of them; it has ended; and the entries of each thread are its whole program, with an end for every call. (That
 -- the three fit is a part of the headline.)
 pub record RanInThreads {K S : Type 0} (k : SchedSteps K) (m : Machine S) (s : SessionScript) (sched_first : K) (dev_first : S) (effects : Effects) (end : EndState) : Type 0 where
+  -- the scheduler and the device as the session left them
   pub sched : K
   pub dev : S
   pub sched_seen : end.sched ≡ k.seen sched
   pub dev_seen : end.dev ≡ m.seen dev
   pub replayed : AreReplayed (opening_of s) (start_of s) k sched_first m dev_first effects end.host sched dev
   pub ended : HasEnded s.header.cut end.host end.sched end.dev
+  -- each thread did its whole program
   pub whole : (t : ℕ) → IsWhole (of_thread t (events_in end.host.history)) (program_of s.programs t)
 
 -- on the elevator, or else on the plain scheduler

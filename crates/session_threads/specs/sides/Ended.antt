@@ -16,6 +16,7 @@ is_failed (completions.Moved id) = false
 is_failed (completions.Flushed id) = false
 is_failed completions.Cut = false
 
+-- the note of a commit block
 abbrev pub is_commit : Note → Bool
 is_commit (notes.Commit tx) = true
 is_commit other = false
@@ -26,7 +27,9 @@ pub record IsAllDone {V C R : Type 0} (h : Host V C R) (p : SchedSeen) (d : Seen
   pub accepted : length p.accepted ≡ length h.journal.flush.requests
   pub none_waits : p.waiting ≡ []
   pub taken : length d.took ≡ length p.sent_out
+  -- every part is on the medium, and every flush was answered
   pub quiet : IsQuiet d
+  -- as many commit blocks were submitted as transactions were closed
   pub closed : count_by is_commit h.journal.flush.notes ≡ length h.cuts
 
 -- Every program is at its end; and the power went at the steps that were asked for, a request failed, as many were submitted as may

@@ -43,11 +43,13 @@ pub record HostSideNow : Type 0 where
 -- The host is the replay of its events from the one that the session opens, over the completions that it took; it sent what it
 -- submitted, and took what came to it.
 pub record IsHostReplay (s : Opening) (b : Start) (h : HostSideNow) : Type 0 where
+  -- what the session opens: journal blocks that can be read, a volume of the root alone, an empty journal, calls that write bytes
   pub written : AreWritten s.format s.writers
   pub opened : IsOpenedVolume s b.volume
   pub journal : HasEmptyJournal s b.ring b.limit
   pub bytes : WriteBytes b.programs
   pub replay : IsInSession s b.volume b.ring b.limit b.programs (with_completions h.events h.taken) h.host
+  -- as many completions were taken as there are `Take` events
   pub counted : takes h.events ≡ length h.taken
   pub sent : h.sent ≡ h.host.host.journal.flush.requests
   pub taken : h.taken ≡ h.host.host.journal.flush.taken

@@ -10,5 +10,6 @@ use Rattle.session_core.specs.run.machine.MadeStart.{made_start}
 pub no_opening : Opening
 no_opening = made_opening (geometry_made 0 0 0) 0 false 0
 
+-- what such a session begins on: no request and no thread
 pub no_start : Start
 no_start = made_start (geometry_made 0 0 0) 0 0 0 []

@@ -38,6 +38,7 @@ abbrev pub all_within : ℕ → List Part → Bool
 all_within blocks [] = true
 all_within blocks (p ∷ ps) = nat_lt p.block blocks && all_within blocks ps
 
+-- both are true, or neither is
 abbrev pub same_bool : Bool → Bool → Bool
 same_bool a b = if a then b else not b
 

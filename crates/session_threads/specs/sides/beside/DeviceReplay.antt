@@ -58,12 +58,14 @@ module _ {S : Type 0} (m : Machine S) where
   sent_from s full (Some c) = record s { kept = kept_by full (Some c) }
   sent_from s full None = record s { dev = m.answered s.dev; kept = kept_by full (m.next_answer s.dev) }
 
+  -- what a step makes of the side
   abbrev pub stepped : DeviceNow S → DeviceStep → DeviceNow S
   stepped s (Takes c) = taken_in s c
   stepped s (Moves pick) = record s { dev = m.transferred s.dev pick }
   stepped s (Writes pick) = record s { dev = m.persisted s.dev pick }
   stepped s (Sends full) = sent_from s full s.kept
 
+  -- what these steps make of it, one after the other
   abbrev pub steps : DeviceNow S → List DeviceStep → DeviceNow S
   steps s [] = s
   steps s (e ∷ es) = steps (stepped s e) es
@@ -83,11 +85,15 @@ pub record DeviceSideNow (S : Type 0) : Type 0 where
 -- for the command that is put aside, and it sent what the device handed out, but for the completion that is kept.
 pub record IsDeviceReplay {S : Type 0} (m : Machine S) (first : S) (s : DeviceSideNow S) : Type 0 where
   pub replay : s.now ≡ steps m (opened_side m first) (with_commands s.events s.taken)
+  -- as many commands were taken as there are `Receive` events
   pub counted : receives s.events ≡ length s.taken
   pub received : s.taken ≡ (m.seen s.now.dev).took ++ option_to_list s.now.unfit
   pub sent : (m.seen s.now.dev).sent ≡ s.sent ++ option_to_list s.now.kept
+  -- the device is still made as the one that the session opens
   pub made : IsMadeAs (m.seen first) (m.seen s.now.dev)
+  -- while no command is put aside, there is a flag for each id that the device may take
   pub limit_is : s.now.unfit ≡ None → length s.now.flags ≡ (m.seen s.now.dev).limit
+  -- and up are those of the ids that it took, which differ
   pub ids : s.now.unfit ≡ None → AreCounted s.now.flags (all_ids (m.seen s.now.dev).took)
 
 -- what contracts see of it

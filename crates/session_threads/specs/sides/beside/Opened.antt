@@ -14,9 +14,11 @@ pub record PartSetup : Type 0 where
   pub fail_at : Option ℕ
   pub cut_at : Option ℕ
 
+-- with what a model device is made: no read of it fails
 abbrev pub epoch_setup : PartSetup → DeviceSetup
 epoch_setup s = record { depth = s.depth; limit = s.limit; fail_at = s.fail_at; bad_read = None; cut_at = s.cut_at }
 
+-- with what a flash log is made
 abbrev pub flog_setup : PartSetup → FlogSetup
 flog_setup s = record { depth = s.depth; limit = s.limit; segments = s.segments; fail_at = s.fail_at; cut_at = s.cut_at }
 

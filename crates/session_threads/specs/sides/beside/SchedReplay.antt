@@ -50,10 +50,12 @@ module _ {K : Type 0} (k : SchedSteps K) where
   sent_from s pick full (Some c) = record s { kept = kept_by full (Some c) }
   sent_from s pick full None = record s { sched = k.dispatched s.sched pick; kept = kept_by full (k.command s.sched pick) }
 
+  -- what a step makes of the side
   abbrev pub stepped : SchedNow K → SchedStep → SchedNow K
   stepped s (Takes r) = taken_in s r
   stepped s (Sends pick full) = sent_from s pick full s.kept
 
+  -- what these steps make of it, one after the other
   abbrev pub steps : SchedNow K → List SchedStep → SchedNow K
   steps s [] = s
   steps s (e ∷ es) = steps (stepped s e) es
@@ -73,10 +75,13 @@ pub record SchedSideNow (K : Type 0) : Type 0 where
 -- took, but for the request that is put aside, and it sent what the scheduler sent out, but for the command that is kept.
 pub record IsSchedReplay {K : Type 0} (k : SchedSteps K) (first : K) (s : SchedSideNow K) : Type 0 where
   pub replay : s.now ≡ steps k (opened_side k first) (with_requests s.events s.taken)
+  -- as many requests were taken as there are `Accept` events
   pub counted : accepts s.events ≡ length s.taken
   pub accepted : s.taken ≡ (k.seen s.now.sched).accepted ++ option_to_list s.now.unfit
   pub sent : (k.seen s.now.sched).sent_out ≡ s.sent ++ option_to_list s.now.kept
+  -- there is a flag for each id below the limit
   pub limit_is : length s.now.flags ≡ (k.seen s.now.sched).limit
+  -- the flag of each id that was accepted is up
   pub flagged : AreFlagged s.now.flags (map (λ (q : Request). q.id) (k.seen s.now.sched).accepted)
 
 -- what contracts see of it
