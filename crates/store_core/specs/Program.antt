@@ -53,11 +53,14 @@ pub record HasStoreTrees (number : Numbering) (path : List ℕ) (s : SessionScri
   pub done : (q t i : ℕ) (body : List ℕ) (reply : Reply) → PutEnds path end q t i body reply → reply ≡ replies.Ok
   -- it wrote its block, and nothing else did behind the zeros
   pub put : (q t i : ℕ) (body : List ℕ) → PutEnds path end q t i body replies.Ok → IsPutAt number (told_by s end) f i (q + 1) body
+  -- each block of the file has such a put, or none
   pub each : (i : ℕ) → ((p : ℕ) × (body : List ℕ) × IsPutAt number (told_by s end) f i p body) ⊎ IsBlank number (told_by s end) f i
+  -- a put in a block is that of a call that was answered Ok
   pub written_once : (i p : ℕ) (b : List ℕ) → IsPutAt number (told_by s end) f i p b → (q : ℕ) × (t : ℕ) × (p ≡ q + 1) × PutEnds path end q t i b replies.Ok
   -- barrier calls before a put that was done find the file
   pub found : (e q t u i : ℕ) (x : Ending Reply) (body : List ℕ) → e < q → EndsAt end.host.history e t (Fdatabarrier path) x → PutEnds path end q u i body replies.Ok
       → reply_of (room_of (opening_of s).geometry) (tree_at (opening_of s) end.host e) (e + 1) (Fdatabarrier path) ≡ replies.Ok
+  -- a barrier call that begins is on the file
   pub node : (e t : ℕ) → BeginsAt end.host.history e t (Fdatabarrier path) → node_in (tree_at (opening_of s) end.host e) (Fdatabarrier path) ≡ f
 
 -- What a store's script is: one thread makes `/log`, fills it, and does the puts. A block's bytes spell the put with the number of
@@ -65,6 +68,7 @@ pub record HasStoreTrees (number : Numbering) (path : List ℕ) (s : SessionScri
 pub record IsStore (number : Numbering) (path : List ℕ) (fills : List Call) (ops : List LogStep) (s : SessionScript) : Type 0 where
   pub width : s.width ≡ 14
   pub programs : s.programs ≡ (Create path ∷ (fills ++ calls_from path 0 ops)) ∷ []
+  -- each of them leaves the tree as it is, or writes zeros
   pub fills_are : (c : Call) → In c fills → (leaves_tree c ≡ true) ⊎ ((off : ℕ) × (len : ℕ) × (c ≡ Write path off len 0))
   pub spelled : (a i : ℕ) (body : List ℕ) → slice_get (calls_from path 0 ops) a ≡ Some (Bytes path (1024 * i) body) → (length body ≡ 1024) × (number body ≡ Some (i + 1))
   pub blank : (x : List ℕ) → length x ≡ 1024 → ((j : ℕ) → j < 1024 → slice_index x j ≡ 0) → Decodes number x → ⊥

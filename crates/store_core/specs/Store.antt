@@ -39,6 +39,7 @@ IsBlank number told f i = (v : ℕ) → Decodes number (told.content f i v) → 
 
 -- A barrier call was answered Ok that covers the put of entry p into (f, i), before entry q.
 pub record IsBarred (s : SessionScript) (end : EndState) (r : SessionReport) (is : HeadlineOn s end r) (f i p q : ℕ) : Type 0 where
+  -- the entry of the answer, its thread, and the call
   pub e : ℕ
   pub t : ℕ
   pub c : Call
@@ -51,6 +52,7 @@ pub record IsBarred (s : SessionScript) (end : EndState) (r : SessionReport) (is
 -- between the two.
 pub record IsStoreLog (number : Numbering) (s : SessionScript) (end : EndState) (r : SessionReport) (is : HeadlineOn s end r) (f : ℕ) : Type 0 where
   pub put : (i : ℕ) → ((p : ℕ) × (body : List ℕ) × IsPutAt number (told_by s end) f i p body) ⊎ IsBlank number (told_by s end) f i
+  -- where a later block has a put, this one has one, and a barrier call was answered between the two
   pub earlier : (i j q : ℕ) (b : List ℕ) → i < j → IsPutAt number (told_by s end) f j q b
       → (p : ℕ) × (body : List ℕ) × IsPutAt number (told_by s end) f i p body × IsBarred s end r is f i p q
 

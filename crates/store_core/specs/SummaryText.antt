@@ -8,6 +8,7 @@ use Rattle.store_core.specs.declared.report.StoreSummary.{StoreSummary}
 abbrev pub pair_line : List ℕ → List ℕ → List ℕ
 pair_line key value = key ++ codes " " ++ value ++ codes "\n"
 
+-- so of each of these pairs, in order
 abbrev pub pair_lines : Pairs → List ℕ
 pair_lines [] = []
 pair_lines ((key, value) ∷ pairs) = pair_line key value ++ pair_lines pairs
