@@ -29,6 +29,7 @@ store_end x = core (volume_script x)
 pub record TellsStore (old new : Option (List ℕ)) (fault : Option TopFault) (bytes : List ℕ) : Type 0 where
   pub script : StoreScript
   pub read : WasRead commands.Kv old new (λ input. store_of input ≡ Ok script)
+  -- what the text says
   pub summary : StoreSummary
   pub written : IsWritten fault (summary_text summary) bytes
   pub steps : summary.steps ≡ (store_end script).dev.steps

@@ -32,6 +32,7 @@ abbrev pub out_of_order : ℕ → Result SessionScript (ℕ × ScriptKind) → R
 out_of_order at (Ok s) = Err (at, kinds.Order)
 out_of_order at (Err (line, kind)) = if nat_lt line at then Err (line, kind) else Err (at, kinds.Order)
 
+-- so where there is such a line, else just what is read
 abbrev pub without_line : Option ℕ → Result SessionScript (ℕ × ScriptKind) → Result SessionScript (ℕ × ScriptKind)
 without_line None read = read
 without_line (Some at) read = out_of_order at read

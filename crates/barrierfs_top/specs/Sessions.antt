@@ -19,6 +19,7 @@ use Rattle.barrierfs_top.specs.Show.{shown_volume}
 
 -- ---- which scripts are of sessions
 
+-- the words of a line begin with `volume`
 abbrev pub names_volume : List (List ℕ) → Bool
 names_volume [] = false
 names_volume (w ∷ ws) = bytes_eq w (codes "volume")
@@ -28,11 +29,13 @@ abbrev pub begins_session : List (List ℕ) → Bool
 begins_session [] = false
 begins_session (l ∷ ls) = if is_skipped l then begins_session ls else names_volume (words_of l)
 
+-- the input is read as a volume script, not as one of block requests
 abbrev pub is_session : List ℕ → Bool
 is_session input = begins_session (lines_of input)
 
 -- ---- the text of a report
 
+-- steps of the device, requests, closed transactions, and those that were found
 abbrev pub figures_of : SessionReport → Figures
 figures_of r = record { steps = r.cut.trace.steps; requests = length r.host.host.journal.flush.requests; closed = length r.host.host.cuts; found = r.found }
 

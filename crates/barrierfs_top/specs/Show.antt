@@ -9,6 +9,7 @@ use Rattle.script_grammar.specs.declared.limits.TheConstants.{DEFAULT_DEPTH}
 use Rattle.barrierfs_top.specs.declared.fault.TopFault.{TopFault}
 use Rattle.barrierfs_top.specs.declared.fault.TopFault.TheVariants as faults
 
+-- the text of a tree, or the fault for which there is none
 abbrev pub text_after : Result (List (ℕ × Node)) FaultPlace → Result (List ℕ) FaultPlace
 text_after (Ok tree) = Ok (tree_text tree)
 text_after (Err told) = Err told

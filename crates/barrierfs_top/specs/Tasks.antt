@@ -33,6 +33,7 @@ raw_named_by w =
     else if bytes_eq w (codes "widen") then Some (commands.Widen true)
     else None
 
+-- this command, where the word after it is `--raw`
 abbrev pub raw_of : List ℕ → Option InputTask → Option InputTask
 raw_of w command = if bytes_eq w (codes "--raw") then command else None
 
@@ -51,10 +52,12 @@ abbrev pub can_make : ℕ → ℕ → ℕ → Bool
 can_make inodes zones journal =
     nat_lt 0 inodes && (nat_le inodes MOST_NUMBERED && (nat_le zones MOST_NUMBERED && (nat_le LEAST_JOURNAL journal && (nat_le journal MOST_JOURNAL && nat_lt (first_zone inodes zones) zones))))
 
+-- the sizes of an image, where all three are numbers and it can be made
 abbrev pub sizes_of : Option ℕ → Option ℕ → Option ℕ → Option Sizes
 sizes_of (Some inodes) (Some zones) (Some journal) = if can_make inodes zones journal then Some (record { inodes = inodes; zones = zones; journal = journal }) else None
 sizes_of inodes zones journal = None
 
+-- `make` and its sizes
 abbrev pub make_of : List ℕ → Option Sizes → Option Task
 make_of w sizes = if bytes_eq w (codes "make") then option_map tasks.Make sizes else None
 
@@ -83,10 +86,12 @@ abbrev pub run_of : Task → Option Bool
 run_of (tasks.Read (commands.Run raw)) = Some raw
 run_of task = None
 
+-- the same where it may be that no task is asked
 abbrev pub run_in : Option Task → Option Bool
 run_in None = None
 run_in (Some task) = run_of task
 
+-- the task, where it is no run in threads
 abbrev pub without_run : Option Task → Option Task
 without_run None = None
 without_run (Some task) = if is_some (run_of task) then None else Some task

@@ -23,6 +23,7 @@ byte_of (Some body) = option_map_or (λ b. b) (slice_get body 0) 0
 abbrev pub origin_at : List (Option ℕ) → ℕ → Option ℕ
 origin_at origins b = option_and_then (λ o. o) (slice_get origins b)
 
+-- the number of a block, its byte, and its origin
 abbrev pub block_line : ℕ → ℕ → Option ℕ → List ℕ
 block_line b value origin = codes "block " ++ decimal b ++ codes " " ++ hex_text value ++ codes " " ++ origin_text origin ++ codes "\n"
 

@@ -58,6 +58,7 @@ pub record Stream : Type 0 where
   pub faults : ℕ
   pub faults_after : ℕ
 
+-- the same, by what is told of a stream's bytes and by its count of faults
 abbrev pub stream_of : {X : Type 0} → (X → Option (List ℕ)) → (X → ℕ) → X → X → Stream
 stream_of bytes faults before after = record { bytes = bytes before; bytes_after = bytes after; faults = faults before; faults_after = faults after }
 
@@ -150,9 +151,11 @@ IsFaultAs session input (faults.Script line kind) = fault_as session input ≡ S
 IsFaultAs session input faults.NoMemory = Unit {0}
 IsFaultAs session input other = ⊥
 
+-- this is the fault of a script of block requests
 abbrev pub IsBlocksFault : List ℕ → TopFault → Type 0
 IsBlocksFault input fault = IsFaultAs false input fault
 
+-- this is the fault of a volume script
 abbrev pub IsSessionFault : List ℕ → TopFault → Type 0
 IsSessionFault input fault = IsFaultAs true input fault
 
@@ -221,6 +224,7 @@ abbrev pub ExpectsAs : Bool → InputTask → List ℕ → Option TopFault → T
 ExpectsAs true c text end = Some faults.TooLong ≡ end
 ExpectsAs false c text end = Ends c text end
 
+-- the end that this input asks for
 abbrev pub Expects : InputTask → List ℕ → Option TopFault → Type 0
 Expects c text end = ExpectsAs (nat_lt (most_of c) (length text)) c text end
 
@@ -234,10 +238,12 @@ EndsAs wanted fault = (fault ≡ wanted) ⊎ (fault ≡ Some faults.NoMemory)
 
 -- ---- faults of the parts
 
+-- why a text is not read as a script, as a fault of the top call
 abbrev pub top_fault : ScriptError → TopFault
 top_fault (errors.Fault line kind) = faults.Script line kind
 top_fault errors.NoMemory = faults.NoMemory
 
+-- why the source was not read to its end, as a fault of the top call
 abbrev pub end_fault : ReadEnd → TopFault
 end_fault ends.Fault = faults.SourceFault
 end_fault ends.TooLong = faults.TooLong

@@ -20,10 +20,12 @@ pub record IsWidened (raw : Bool) (blocks : List (List ℕ)) (text : List ℕ) :
   pub widened : widened_image blocks ≡ Ok image
   pub written : written_of raw image ≡ Ok text
 
+-- the first fault of the widened image, where nothing is written of it
 abbrev pub written_fault : Result (List ℕ) FaultPlace → Option TopFault
 written_fault (Ok text) = None
 written_fault (Err (kind, block)) = Some (faults.Image kind block)
 
+-- that fault, or why the image was not widened: its first fault, or that it has no room
 abbrev pub fault_of : Bool → Result (List (List ℕ)) WidenFault → Option TopFault
 fault_of raw (Ok image) = written_fault (written_of raw image)
 fault_of raw (Err (widening.Image kind block)) = Some (faults.Image kind block)
