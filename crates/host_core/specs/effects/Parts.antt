@@ -6,7 +6,7 @@ use Rattle.host_machine.specs.Model.{Model, FileBlock}
 use Rattle.host_machine.specs.State.{Host}
 use Rattle.host_core.specs.effects.Effects.{noted_part, dropped_pages, written_pages, taken_zones}
 
--- what a volume tells, as the host has it
+-- a page that a volume tells of, as the host has it
 abbrev pub file_block : Page → FileBlock
 file_block x = record { birth = x.birth; index = x.index; block = x.zone }
 

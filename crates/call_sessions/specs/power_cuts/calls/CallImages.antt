@@ -57,7 +57,7 @@ pub record IsCut (g : Geometry) (journal : ℕ) (wide : Bool) (limit : ℕ) (pro
 abbrev pub submitted_by : Geometry → ℕ → Bool → List Transaction → Host VolumeNow Call Reply → Session
 submitted_by g journal wide closed h = session (call_over (opening_on g journal wide)) (Stands (opening_on g journal wide)) closed h
 
--- how many transactions have their commit block on the medium, and the tree after them
+-- how many transactions have their commit block on the medium
 abbrev pub kept_count : Geometry → ℕ → Bool → Host VolumeNow Call Reply → Medium → ℕ
 kept_count g journal wide h m = found (submitted_by g journal wide [] h) m
 

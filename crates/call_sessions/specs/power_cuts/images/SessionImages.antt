@@ -56,7 +56,7 @@ submitted s events = session (over (made_opening s.geometry s.journal s.wide s.q
 abbrev pub log_on : Start → Medium → List Transaction
 log_on s m = model.log_of (format s.wide) (ring_of (new_journal s.journal s.wide)) s.geometry.zones (disk_of m.image)
 
--- how many transactions have their commit block on the medium, and the tree after them
+-- how many transactions have their commit block on the medium
 abbrev pub kept_transactions : Start → List Event → Medium → ℕ
 kept_transactions s events m = kept_number (over (made_opening s.geometry s.journal s.wide s.quota)) (Stands (made_opening s.geometry s.journal s.wide s.quota)) (host_of s events) [] m
 
