@@ -106,8 +106,8 @@ pub record HasSetup (s : SessionScript) (d : Seen) : Type 0 where
   pub cut_at : d.cut_at ≡ s.header.cut
   pub fail_at : d.fail_at ≡ s.header.fail
 
--- The device was made over the image of the script's volume, as its header says, and may take so many ids as the script has requests at
--- most; nothing was asked of it yet.
+-- The device was made over the image of the script's volume, as its header says, and may take at least so many ids as the script may have
+-- requests; nothing was asked of it yet.
 pub record IsNewFor (s : SessionScript) (d : Seen) : Type 0 where
   pub image : d.base ≡ made_image (geometry_of s) s.journal s.wide
   pub setup : HasSetup s d

@@ -92,23 +92,6 @@ pub data ShowsLater (s : SessionScript) (end : EndState) (found : ℕ) (tree : T
   ByBytes : HasNewerBytes s end found tree e → ShowsLater s end found tree e
   ByMetadata : ((v : ℕ) → v ≤ e → AreAlike (tree_at (opening_of s) end.host v) tree → ⊥) → ShowsLater s end found tree e
 
--- ---- the same on the device that a script opens
-
--- the same four of the script's own end, that of its run on one thread
-abbrev pub told_of : SessionScript → History WalkEnd
-told_of s = told_by s (core s)
-
-abbrev pub submitted_of : SessionScript → Session
-submitted_of s = submitted_in s (core s)
-
--- how many transactions of that run have their commit block on this medium
-abbrev pub kept_on : SessionScript → Medium → ℕ
-kept_on s m = kept_in s (core s) m
-
--- a write of that run, made after entry e, survived on this medium
-abbrev pub IsLaterSurvived : SessionScript → Medium → ℕ → Type 0
-IsLaterSurvived s m e = HasLaterKept s (core s) m e
-
 -- ---- the sentences
 
 -- The sentences, over a script's session that ended so and what is left of it. `closed` is what the closed transactions

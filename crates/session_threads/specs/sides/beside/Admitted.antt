@@ -56,7 +56,7 @@ count_set [] = 0
 count_set (true ∷ fs) = suc (count_set fs)
 count_set (false ∷ fs) = count_set fs
 
--- the flags behind a command, and whether a device of so many blocks may be given it
+-- the flags after a command, with those of its ids up; none where one of them came before
 abbrev pub flags_behind : List Bool → Command → List Bool
 flags_behind flags c = unwrap_or (take_new flags (ids_of c)) []
 
