@@ -16,7 +16,6 @@ use Rattle.host_machine.specs.Host as machine
 use Rattle.host_machine.specs.Host.{Stepped}
 use Rattle.host_machine.specs.Outcomes as outcomes
 use Rattle.host_machine.specs.State as state
-use Rattle.host_machine.specs.State.{Host, Setup}
 use Rattle.host_core.specs.at_once.Steps.{CallParts}
 use Rattle.host_core.specs.Answers.{IfStepped, found_queue_full}
 use Rattle.host_core.specs.Entries.{entry_in}

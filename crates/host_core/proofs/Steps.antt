@@ -17,7 +17,7 @@ use Rattle.minix_host.specs.Calls.{kind_of, refusal}
 use Rattle.minix_host.specs.PlainTrees.{PlainTree}
 use Rattle.minix_host.specs.Sessions.{model_of}
 use Rattle.host_core.specs.begun.Parts as begun
-use Rattle.host_core.specs.begun.Steps.{Gone, goes_on}
+use Rattle.host_core.specs.begun.Steps.{goes_on}
 use Rattle.host_core.specs.begun.Steps as begun_steps
 use Rattle.host_core.specs.at_once.Parts as plain
 use Rattle.host_core.specs.at_once.Parts.{parts_in}

@@ -1,5 +1,5 @@
 -- That every program is at its end.
-use Rattle.std.specs.Prelude.{ℕ, ◌==◌, ◌&&◌, Bool, true, List, [], ◌∷◌, length}
+use Rattle.std.specs.Prelude.{◌==◌, ◌&&◌, Bool, true, List, [], ◌∷◌, length}
 use Rattle.host_machine.specs.State.{Thread}
 
 -- no thread has a call left

@@ -1,9 +1,8 @@
 -- The sentences of a session, from the laws of its host and of its power cut.
-use Rattle.std.proofs.Common.{take, ◌≡◌, ℕ, ◌++◌, true, false, List, [], refl, sym, subst, ◌∙◌}
+use Rattle.std.proofs.Common.{take, ◌≡◌, ℕ, ◌++◌, true, List, [], sym, subst, ◌∙◌}
 use Rattle.blk_base.specs.Members.{In}
 use Rattle.blk_base.specs.laws.Members.{In-take, In-append_left}
 use Rattle.order_model.specs.declared.completion.Completion.{Completion}
-use Rattle.tree_model.specs.declared.call.Call.{Call}
 use Rattle.tree_model.specs.Trees.{AreAlike}
 use Rattle.volume_ops.specs.Volume.{disk_of}
 use Rattle.mount_make.specs.Images.{recovered_image}

@@ -3,7 +3,7 @@ use Rattle.std.proofs.Common.{take, ◌≡◌, ℕ, ◌<◌, ◌≤◌, ◌↔�
 use Rattle.blk_base.specs.Members.{In}
 use Rattle.blk_base.specs.laws.Members.{In-append_left, In-append_right}
 use Rattle.order_model.specs.declared.device.OrderedDev as devices
-use Rattle.order_model.specs.Carrying.{SchedSeen, IsPrefixOf}
+use Rattle.order_model.specs.Carrying.{SchedSeen}
 use Rattle.order_model.specs.Device.{Seen, TellsCut, TellsFailure}
 use Rattle.order_model.specs.Machine.{Machine}
 use Rattle.order_model.specs.Steps.{IsMadeAs}

@@ -1,5 +1,5 @@
 -- What recovery made of a script's session, on any device, on model devices and on flash logs.
-use Rattle.std.proofs.Common.{◌≡◌, ℕ, ◌≤◌, List, [], Option, Some, None, IfOk, Ok, Err, Result, refl, sym, ap, subst, ◌∙◌, arith}
+use Rattle.std.proofs.Common.{◌≡◌, ℕ, List, Some, None, IfOk, Ok, Err, Result, refl, sym, ap, subst, ◌∙◌, arith}
 use Rattle.blk_base.specs.declared.memory.NoMemory.{NoMemory}
 use Rattle.order_model.specs.Machine.{Machine}
 use Rattle.device_epochs.specs.Device.{DeviceState, seen}

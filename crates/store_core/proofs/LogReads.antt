@@ -12,7 +12,7 @@ use Rattle.tree_model.specs.Maps.{at_number}
 use Rattle.tree_model.specs.Trees.{Refusal, node_of_path}
 use Rattle.store_core.specs.Program.{log_names}
 use Rattle.store_core.specs.Stores.{blocks_from, log_in}
-use Rattle.store_core.specs.code.LogNodes.{log_node, front_of, file_blocks, log_file, front_in}
+use Rattle.store_core.specs.code.LogNodes.{front_of, file_blocks, log_file, front_in}
 
 abbrev or_more : List (List ℕ) → Option (List ℕ) → List (List ℕ)
 or_more rest o = elim o as (λ _. List (List ℕ)) [ None ↦ [] | Some b ↦ b ∷ rest ]

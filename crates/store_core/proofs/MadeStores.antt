@@ -15,7 +15,7 @@ use Rattle.wal_store.specs.declared.puts.Op.TheVariants as ops
 use Rattle.wal_store.specs.Puts.{IsPut}
 use Rattle.wal_store.specs.Blocks.{encode, decode}
 use Rattle.wal_store.specs.calls.Calls as wal
-use Rattle.wal_store.specs.calls.Calls.{fill_call, fills_from, fill_count, fills, put_count, ArePuts}
+use Rattle.wal_store.specs.calls.Calls.{fills_from, fill_count, fills, put_count, ArePuts}
 use Rattle.wal_store.proofs.Spelled.{fields, key-few, value-few, length-spelled, decode-encode, decode-read}
 use Rattle.store_grammar.specs.declared.script.StoreScript.{StoreScript}
 use Rattle.store_grammar.specs.Made.{volume_script}

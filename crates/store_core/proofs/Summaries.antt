@@ -12,8 +12,8 @@ use Rattle.wal_store.specs.declared.log.LogContents.{LogContents}
 use Rattle.wal_store.specs.Log.{held_in}
 use Rattle.store_grammar.specs.declared.script.StoreScript.{StoreScript}
 use Rattle.store_grammar.specs.Made.{volume_script}
-use Rattle.store_core.specs.Runs.{ArePairs, IsHeldAfter, IsHeldOn, held_on}
-use Rattle.store_core.specs.Stores.{acknowledged_from, acknowledged_in, log_in}
+use Rattle.store_core.specs.Runs.{ArePairs, IsHeldAfter, IsHeldOn}
+use Rattle.store_core.specs.Stores.{acknowledged_from, acknowledged_in}
 use Rattle.store_core.proofs.HeldPairs.{pairs-held}
 
 -- the puts are counted in what the host noted of its calls

@@ -15,12 +15,12 @@ use Rattle.volume_model.specs.declared.placed.Placed.{Placed}
 use Rattle.volume_model.specs.declared.placed.Part.{Part}
 use Rattle.volume_model.specs.declared.placed.Part.TheVariants as parts
 use Rattle.volume_model.specs.declared.placed.DirectoryPart.{DirectoryPart}
-use Rattle.volume_model.specs.Edits.{clear_from, touched_by, touched_by_all}
+use Rattle.volume_model.specs.Edits.{touched_by, touched_by_all}
 use Rattle.volume_model.specs.Touched.{Contents}
 use Rattle.volume_model.specs.Volume.{Place, block, indirect, double, inner, zone_in}
 use Rattle.volume_model.specs.Ways.{Home, slot, entry, nowhere, home, way}
 use Rattle.volume_model.specs.MapBlock.{OpenInode, TakenZones, own_of, entry_edits, gets_edits, step_edits, all_edits, get_step, taken_at, first_body, map_block}
-use Rattle.volume_model.specs.Cut.{cuts, cut_edits, cut_told, has_numbers, cut_to}
+use Rattle.volume_model.specs.Cut.{cuts, cut_told, has_numbers, cut_to}
 use Rattle.volume_model.specs.Moves.{opened, name_removed, file_mapped_touches, numbers_gone, file_cut_touches, back_told, inode_told, same_inode, with_size, without_name, with_name}
 use Rattle.volume_model.specs.Counts.{keeps_below, indices_of}
 use Rattle.volume_steps.specs.Now.{VolumeNow, Change, unchanged, with_contents, written, tells_writes}

@@ -1,6 +1,6 @@
 -- How a session's run on one scheduler and one device ends, for the code that runs it.
-use Rattle.std.specs.Prelude.{◌≡◌, ℕ, ◌++◌, []}
-use Rattle.order_model.specs.Carrying.{SchedSeen, IsPrefixOf}
+use Rattle.std.specs.Prelude.{◌≡◌, ◌++◌}
+use Rattle.order_model.specs.Carrying.{IsPrefixOf}
 use Rattle.order_model.specs.Device.{origin_ids}
 use Rattle.order_model.specs.Machine.{Machine}
 use Rattle.order_model.specs.Steps.{IsTraceOf}

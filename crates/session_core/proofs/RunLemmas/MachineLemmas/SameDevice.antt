@@ -1,5 +1,5 @@
 -- What a device was made with stays along a run, on any device.
-use Rattle.std.proofs.Common.{◌≡◌, ℕ, Option, refl, ap, ◌∙◌}
+use Rattle.std.proofs.Common.{Option, refl, ap, ◌∙◌}
 use Rattle.order_model.specs.declared.command.Command.{Command}
 use Rattle.order_model.specs.declared.completion.Completion.{Completion}
 use Rattle.order_model.specs.Device.{Seen}

@@ -1,5 +1,4 @@
-use Rattle.std.proofs.Common.{sym, ap, subst, ◌∙◌, ◌≡◌, Ok}
-use Rattle.mount_make.specs.Images.{mounted, recovered_image}
+use Rattle.std.proofs.Common.{sym}
 use Rattle.session_core.specs.Core.{geometry_of}
 use Rattle.session_core.proofs.Cut.{report_keeps, report_facts, report_counts, base_of, journal_of}
 use Rattle.session_core.proofs.Headlines.{headline_of}

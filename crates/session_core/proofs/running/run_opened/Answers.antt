@@ -1,6 +1,3 @@
-use Rattle.order_model.specs.Machine.{machine_of}
-use Rattle.session_core.specs.Core.{EndState, core_on}
-use Rattle.session_core.specs.code.Ends.{IsEndOfScript}
 use Rattle.session_core.proofs.running.run_opened.Goals as goal
 
 pub recover_session-requires-clause-end : goal.recover_session-requires-clause-end

@@ -10,7 +10,7 @@ use Rattle.session_threads.proofs.SidesLemmas.BesideLemmas.Admitting.{acceptable
 use Rattle.session_threads.specs.declared.sides.beside.events.SchedEvent.{SchedEvent}
 use Rattle.session_threads.specs.declared.sides.beside.events.SchedEvent.TheVariants as noted
 use Rattle.session_threads.specs.sides.beside.SchedReplay as replays
-use Rattle.session_threads.specs.sides.beside.SchedReplay.{SchedNow, SchedSideNow, IsSchedReplay, SchedStep, Takes, with_requests, accepts, stepped, steps, taken_in, sent_from, kept_by, opened_side}
+use Rattle.session_threads.specs.sides.beside.SchedReplay.{SchedNow, SchedSideNow, IsSchedReplay, Takes, with_requests, accepts, stepped, steps, sent_from, opened_side}
 use Rattle.session_threads.proofs.SidesLemmas.BesideLemmas.SchedEvents.{more_sent, same_accepts, more_taken, one_accept, steps_more}
 
 ids_more : (rs : List Request) (r : Request) → map (λ (q : Request). q.id) (rs ++ r ∷ []) ≡ map (λ (q : Request). q.id) rs ++ r.id ∷ []

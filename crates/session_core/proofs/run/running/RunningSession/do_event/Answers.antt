@@ -3,8 +3,7 @@ use Rattle.std.proofs.Common.{sym, ap, ◌∙◌, rules}
 use Rattle.order_model.specs.Machine.{machine_of}
 use Rattle.line_grammar.specs.declared.events.event.CoreEvent.TheVariants.{Receive, Answer}
 use Rattle.session_core.specs.run.machine.Fits.{IsDevice}
-use Rattle.session_core.specs.run.code.Session.{after_event, IsAt}
-use Rattle.session_core.specs.run.Beginning.{Beginning}
+use Rattle.session_core.specs.run.code.Session.{after_event}
 use Rattle.session_core.proofs.RunLemmas.Reaching.{may_accept, may_receive, leads_call, leads_commit, leads_writeback, leads_accept, leads_dispatch, leads_transfer, leads_persist, leads_as}
 use Rattle.session_core.proofs.run.running.RunningSession.do_event.Goals as goal
 
