@@ -4,7 +4,7 @@ ghost use Rattle.std.specs.Prelude.{◌≡◌, ◌<◌, length};
 use blk_base::{Block, NoMemory};
 use order_model::{
     Command, Commands, Completion, History, Inlet, Kind, ListQueue, Outlet, Part, Parts, Priority,
-    Request, Requests,
+    Request, Tally,
 };
 use std::process::Abort;
 
@@ -184,30 +184,13 @@ fn put(part: Part) -> Request {
     }
 }
 
-// Whether this request stands at the place.
-fn is_request(requests: &Requests, at: usize, request: Option<&Request>) -> bool {
-    requests.get(at).as_ref() == request
-}
-
 #[test]
-fn requests_in_order(rt: HostRuntime) -> Result<(), NoMemory> {
-    let flush = Request {
-        id: 2,
-        kind: Kind::Flush,
-        ordered: true,
-        barrier: true,
-    };
-    let wanted = [put(mixed(0, 5)), put(part(1, 6)), flush, put(mixed(3, 9))];
-    let mut requests = Requests::make(rt.alloc(), 4)?;
-    requests.push(&wanted[0]);
-    requests.push(&wanted[1]);
-    requests.push(&wanted[2]);
-    requests.push(&wanted[3]);
-    assert_eq!(rt; (requests.len(), requests.is_empty()), (4, false));
-    for at in 0..5 {
-        assert!(rt; is_request(&requests, at, wanted.get(at)), "at {at}");
-    }
-    Ok(())
+fn tallies_count(rt: HostRuntime) {
+    let mut tally = Tally::make(2);
+    assert!(rt; tally.is_empty());
+    tally.push(&put(mixed(0, 5)));
+    tally.push(&put(part(1, 6)));
+    assert_eq!(rt; (tally.len(), tally.is_empty()), (2, false));
 }
 
 #[test]

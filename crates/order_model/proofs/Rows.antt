@@ -1,23 +1,18 @@
--- The rows of commands and of requests.
-use Rattle.std.proofs.Common.{◌≡◌, ℕ, ◌≤◌, List, [], ◌∷◌, ◌++◌, length, map, All, Some, refl, sym, ap, subst, ◌∙◌, slice_get}
+-- The rows of commands.
+use Rattle.std.proofs.Common.{◌≡◌, ℕ, ◌≤◌, List, [], ◌∷◌, ◌++◌, length, All, Some, sym, ap, subst, ◌∙◌, slice_get}
 use Rattle.std.specs.Option.{option_map}
 use Rattle.std.proofs.lemmas.List.{length-map}
 use Rattle.std.proofs.lemmas.List.Elements.{All-get_or}
 use Rattle.std.proofs.lemmas.Option.{slice_get-map, get_or_from_slice_get}
 use Rattle.blk_base.specs.laws.Members.{slice_get-length}
 use Rattle.order_model.specs.declared.part.Part.{Part}
-use Rattle.order_model.specs.declared.request.Kind.{Kind}
 use Rattle.order_model.specs.declared.request.Kind.TheVariants as kinds
-use Rattle.order_model.specs.declared.request.Request.{Request}
 use Rattle.order_model.specs.declared.history.CommandEnd.{CommandEnd}
 use Rattle.order_model.specs.declared.history.PartRow.{PartRow}
-use Rattle.order_model.specs.declared.requests.AskedRow.{AskedRow}
-use Rattle.order_model.specs.declared.requests.AskedRow.TheVariants as rows
-use Rattle.order_model.specs.declared.requests.RequestRow.{RequestRow}
 use Rattle.order_model.specs.History.{commands_of, EndAt}
 use Rattle.order_model.specs.Received.{all_parts, part_at}
 use Rattle.order_model.specs.code.Bodies.{IsThere}
-use Rattle.order_model.specs.code.Rows.{part_of, parts_kept, IsPartThere, AreThere, asked_of, IsAskedThere, request_of, IsRequestThere}
+use Rattle.order_model.specs.code.Rows.{part_of, parts_kept, IsPartThere, AreThere}
 use Rattle.order_model.proofs.Histories.{all_parts-kept}
 use Rattle.order_model.proofs.KeptRows as kept_rows
 
@@ -46,23 +41,3 @@ part_found n es stored rows place h eq = ap (λ (ps : List Part). slice_get ps p
 -- what is so of all is so of one that is found
 pub one_there : {X : Type 0} (There : X → Type 0) (xs : List X) (place : ℕ) (x : X) → All There xs → slice_get xs place ≡ Some x → There x
 one_there There xs place x there at = subst There (get_or_from_slice_get xs place x x at) (All-get_or There xs place x (slice_get-length xs place x at) there)
-
--- ---- requests
-
-asked-still : (stored more : List (List ℕ)) (a : AskedRow) → IsAskedThere (length stored) a → asked_of (stored ++ more) a ≡ asked_of stored a
-asked-still stored more (rows.Put block kept) there = ap (λ (b : List ℕ). kinds.Put block b) (kept_rows.body-still stored more kept there)
-asked-still stored more rows.Flush there = refl
-
-asked_there-still : (n m : ℕ) (a : AskedRow) → n ≤ m → IsAskedThere n a → IsAskedThere m a
-asked_there-still n m (rows.Put block kept) le there = kept_rows.there-still n m kept le there
-asked_there-still n m rows.Flush le there = there
-
-request-still : (stored more : List (List ℕ)) (r : RequestRow) → IsRequestThere (length stored) r → request_of (stored ++ more) r ≡ request_of stored r
-request-still stored more r there = ap (λ (k : Kind). let q : Request = record { id = r.id; kind = k; ordered = r.ordered; barrier = r.barrier } in q) (asked-still stored more r.asked there)
-
-request_there-still : (n m : ℕ) (r : RequestRow) → n ≤ m → IsRequestThere n r → IsRequestThere m r
-request_there-still n m r le there = asked_there-still n m r.asked le there
-
-pub requests_pushed : (stored more new : List (List ℕ)) (rs : List RequestRow) (r : RequestRow) → new ≡ stored ++ more → All (IsRequestThere (length stored)) rs
-    → (q : Request) → request_of new r ≡ q → map (request_of new) (rs ++ r ∷ []) ≡ map (request_of stored) rs ++ q ∷ []
-requests_pushed = kept_rows.says_pushed request_of IsRequestThere request-still request_there-still

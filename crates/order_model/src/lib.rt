@@ -21,8 +21,8 @@ mod note;
 mod order_law;
 mod part;
 mod request;
-mod requests;
 mod sched_record;
+mod tally;
 mod trail;
 mod turn;
 
@@ -41,7 +41,7 @@ pub use order_law::{
 };
 pub use part::{Part, Parts};
 pub use request::{Kind, Request};
-pub use requests::Requests;
 pub use sched_record::SchedRecord;
+pub use tally::Tally;
 pub use trail::Trail;
 pub use turn::Turn;

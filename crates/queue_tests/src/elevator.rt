@@ -158,8 +158,8 @@ fn trace_has_what_passed(rt: HostRuntime) -> Result<(), NoMemory> {
     let Bench { sched, count } = bench;
     assert_eq!(rt; (count, sched.trace().sent_out.len()), (128, 1));
     let record = sched.into_trace();
-    let passed = (record.accepted.len(), record.sent_out.count_parts());
-    assert_eq!(rt; passed, (128, 16));
+    let passed = (record.accepted.len(), record.sent_out.len());
+    assert_eq!(rt; passed, (128, 1));
     Ok(())
 }
 

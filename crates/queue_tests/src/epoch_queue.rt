@@ -4,7 +4,7 @@ ghost use Rattle.std.specs.Prelude.{◌≡◌, ◌+◌, ◌<◌, ◌≤◌, true
 use crate::bench::Ask::{self, Barrier, Flush, Ordered, Orderless};
 use crate::bench::request;
 use blk_base::NoMemory;
-use order_model::{Kind, Request, Requests};
+use order_model::{Kind, Request, Tally};
 use schedulers::reassign::{EpochQueue, Held};
 use std::alloc::Global;
 use std::process::Abort;
@@ -169,17 +169,15 @@ fn holds_capacity(rt: HostRuntime) -> Result<(), NoMemory> {
     plays(&rt, rt.alloc(), 2, &steps)
 }
 
-// The record has the flag that the queue keeps for another request, and nothing of one that came back.
+// The record has nothing of a request that came back.
 #[test]
 fn records_what_it_accepts(rt: HostRuntime) -> Result<(), NoMemory> {
     let mut q = EpochQueue::make(rt.alloc(), 8)?;
-    let mut history = Requests::make(rt.alloc(), 2)?;
+    let mut history = Tally::make(2);
     let accepted = q.accept_recorded(&mut history, request(7, Barrier(3)));
     let blocked = q.accept_recorded(&mut history, request(8, Orderless(4)));
     let answers = (accepted.is_ok(), blocked.is_err(), history.len());
     assert_eq!(rt; answers, (true, true, 1));
-    let recorded = history.get(0).map(|r| (r.id, r.ordered, r.barrier));
-    assert_eq!(rt; recorded, Some((7, true, true)));
     assert_eq!(rt; leave(&mut q, 0), Some((7, false, true)));
     Ok(())
 }

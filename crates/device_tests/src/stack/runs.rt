@@ -27,12 +27,12 @@ fn compare(
     assert_eq!(rt; report.cut.origins.as_slice(), origins);
 }
 
-// The parts that the scheduler sent out are of the requests with these ids.
+// The scheduler sent the requests with these ids, each as a command of its own, and the device took them.
 fn compare_sent(rt: &impl Abort, report: &Report, ids: &[u64]) {
-    let sent_out = &report.sched.sent_out;
-    assert_eq!(rt; sent_out.count_parts(), ids.len());
+    assert_eq!(rt; report.sched.sent_out.len(), ids.len());
+    let took = &report.cut.trace.took;
     for (place, id) in ids.iter().enumerate() {
-        assert_eq!(rt; sent_out.part_id(place), Some(*id), "part {place}");
+        assert_eq!(rt; took.part_id(place), Some(*id), "part {place}");
     }
 }
 
@@ -92,7 +92,7 @@ fn submits_no_more_than_the_queue_holds(rt: HostRuntime) -> Result<(), Fail> {
 #[test]
 fn accepts_nothing_while_a_barrier_is_closing(rt: HostRuntime) -> Result<(), Fail> {
     let text =
-        b"blocks 2\nput 0 11 barrier\nput 1 22 free\nevents\nsubmit x 2\naccept x 2\ndispatch 0\n";
+        b"blocks 2\nput 0 11 barrier\nput 1 22 free\nevents\nsubmit x 2\naccept x 2\ndispatch 0\nreceive\n";
     leaves(&rt, rt.alloc(), text, (0, 2, 1, 0), &[0], &[None, None])
 }
 

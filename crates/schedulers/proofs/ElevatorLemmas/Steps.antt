@@ -1,8 +1,8 @@
 -- The fields of an elevator when it is made, and after an acceptance and a dispatch.
-use Rattle.std.proofs.Common.{◌≡◌, ℕ, ◌+◌, ◌<◌, ◌≤◌, ◌++◌, Bool, true, false, List, [], ◌∷◌, length, Option, Some, None, slice_get, if◌then◌else◌, refl, ap, ap₂, sym, subst, ◌∙◌, arith}
+use Rattle.std.proofs.Common.{◌≡◌, ℕ, ◌+◌, ◌<◌, ◌++◌, Bool, true, false, [], ◌∷◌, length, Option, Some, None, slice_get, if◌then◌else◌, refl, ap, ap₂, sym, subst, ◌∙◌, arith}
 use Rattle.std.specs.Option.{option_map, option_map_or}
 use Rattle.std.proofs.lemmas.Bool.{false≢true}
-use Rattle.std.proofs.lemmas.List.{length_push, length-append}
+use Rattle.std.proofs.lemmas.List.{length_push}
 use Rattle.std.proofs.lemmas.Option.{none-some, same_Some, some_pair_parts}
 use Rattle.order_model.specs.declared.command.Command.{Command}
 use Rattle.order_model.specs.declared.request.Kind.{Kind}
@@ -10,7 +10,6 @@ use Rattle.order_model.specs.declared.request.Kind.TheVariants.{Put, Flush}
 use Rattle.order_model.specs.declared.request.Request.{Request}
 use Rattle.order_model.specs.History.{HistoryState}
 use Rattle.order_model.specs.OrderClosed.{kind_block}
-use Rattle.order_model.specs.Received.{all_parts}
 use Rattle.order_model.specs.Single.{command_of_request}
 use Rattle.order_model.proofs.Next.{sent_few}
 use Rattle.schedulers.specs.reassign.Epoch as epoch
@@ -119,27 +118,15 @@ sent_is s pick at sent command queue found t c q = record {
 after_valid : (s : Inside) (pick : ℕ) (command : Command) (queue : EpochState) → IsInside s → (t : IsSent s pick command queue) → IsElevator (sent_as (state_of s) (leaving_with s.queue t.waiting))
 after_valid s pick command queue v t = sent_valid (state_of s) t.waiting v.valid (picked_leaves (state_of s) pick t.waiting t.picked_at)
 
-all_parts-push : (cs : List Command) (c : Command) → length (all_parts (cs ++ c ∷ [])) ≡ length (all_parts cs) + length c.parts
-all_parts-push [] c = let n = length-append c.parts [] in omega (arith, n)
-all_parts-push (d ∷ cs) c =
-    let rest = all_parts-push cs c in
-    let n = length-append d.parts (all_parts (cs ++ c ∷ [])) in
-    let m = length-append d.parts (all_parts cs) in
-    omega (arith, rest, n, m)
-
 -- there is room for it
 pub sent_room : (s : Inside) (pick : ℕ) (command : Command) (queue : EpochState) → IsInside s → IsSent s pick command queue
-    → (length s.trace.sent_out.items < s.limit) × (length (all_parts s.trace.sent_out.items) + length command.parts ≤ s.limit)
+    → length s.trace.sent_out.items < s.limit
 sent_room s pick command queue v t =
     let g = leaving_with s.queue t.waiting in
     let after = sent_as (state_of s) g in
-    let few = sent_few (seen_of after) (carries_requests after (after_valid s pick command queue v t)) in
-    let commands = few.0 in
-    let parts = few.1 in
+    let few = (sent_few (seen_of after) (carries_requests after (after_valid s pick command queue v t))).0 in
     let n = length_push s.trace.sent_out.items g.command in
-    let m = all_parts-push s.trace.sent_out.items g.command in
-    let same = ap (λ (c : Command). length c.parts) t.command_is in
-    (omega (arith, commands, n), omega (arith, parts, m, same))
+    omega (arith, few, n)
 
 abbrev sent_history : Inside → Command → HistoryState Command
 sent_history s c = record { items = s.trace.sent_out.items ++ c ∷ []; room = s.trace.sent_out.room }

@@ -1,19 +1,14 @@
 -- The fields of a scheduler after an acceptance and after a dispatch.
-use Rattle.std.proofs.Common.{◌≡◌, ℕ, ◌+◌, ◌<◌, ◌≤◌, Bool, true, List, [], ◌∷◌, ◌++◌, length, Option, Some, None, refl, ap, sym, subst, ◌∙◌, arith, inl, inr}
-use Rattle.std.proofs.lemmas.List.{length-append}
-use Rattle.std.proofs.lemmas.Option.{none-some, same_Some, some_pair_parts}
-use Rattle.blk_base.specs.Members.{In}
+use Rattle.std.proofs.Common.{◌≡◌, ℕ, ◌<◌, Bool, true, [], ◌∷◌, ◌++◌, length, Option, Some, None, refl, ap, sym, subst, ◌∙◌, arith}
+use Rattle.std.proofs.lemmas.Option.{none-some, some_pair_parts}
 use Rattle.blk_base.specs.laws.Members.{In-slice_get}
 use Rattle.order_model.specs.declared.command.Command.{Command}
-use Rattle.order_model.specs.declared.request.Kind.{Kind}
-use Rattle.order_model.specs.declared.request.Kind.TheVariants.{Put, Flush}
 use Rattle.order_model.specs.declared.request.Request.{Request}
 use Rattle.order_model.specs.History.{HistoryState}
-use Rattle.order_model.specs.Received.{all_parts}
 use Rattle.schedulers.specs.reassign.Epoch as epoch
 use Rattle.schedulers.specs.reassign.Epoch.{EpochState, Waiting, can_accept, picked, departed, leaving, leaves_flagged}
 use Rattle.schedulers.specs.declared.epochs.sched.Sched.TheInside.{Inside}
-use Rattle.order_model.specs.Single.{parts_for, command_of_request}
+use Rattle.order_model.specs.Single.{command_of_request}
 use Rattle.schedulers.specs.reassign.Sched.{SchedState, seen_of}
 use Rattle.schedulers.specs.epochs.code.Fields.{IsSched, state_of}
 use Rattle.schedulers.specs.reassign.laws.Valid.{IsValid}
@@ -43,38 +38,11 @@ leaving-some q (Some w) r flagged e =
     let p = some_pair_parts w.request r (leaves_flagged q w) flagged (sym e) in
     (w, refl, p.0, p.1)
 
-parts_for-few : (id : ℕ) (k : Kind) → length (parts_for id k) ≤ 1
-parts_for-few id (Put block body) = omega arith
-parts_for-few id Flush = omega arith
-
-all_parts-few : (cs : List Command) → ((c : Command) → In c cs → length c.parts ≤ 1) → length (all_parts cs) ≤ length cs
-all_parts-few [] h = omega arith
-all_parts-few (c ∷ cs) h =
-    let first = h c (inl refl) in
-    let rest = all_parts-few cs (λ d i. h d (inr i)) in
-    let n = length-append c.parts (all_parts cs) in
-    omega (arith, first, rest, n)
-
--- a command that was sent out has at most one part
-sent-few : (s : SchedState) (c : Command) → IsValid s → In c s.sent_out → length c.parts ≤ 1
-sent-few s c v h =
-    let at = In-slice_get s.sent_out c h in
-    let g = (v.made at.0 at.1).1 in
-    let same : command_of_request g.request g.flagged ≡ c = same_Some _ _ (sym g.sent ∙ at.2) in
-    subst (λ (d : Command). length d.parts ≤ 1) same (parts_for-few g.request.id g.request.kind)
-
 -- there is room for what leaves
 pub sent_room : (s : SchedState) (pick : ℕ) (w : Waiting) → IsValid s → picked s.queue pick ≡ Some w → length s.sent_out < s.limit
 sent_room s pick w v e =
     let at = In-slice_get s.queue.waiting w (picked-leaves s pick w e).0 in
     omega (arith, at.1, v.counted, v.few)
-
-pub parts_room : (s : SchedState) (pick : ℕ) (w : Waiting) (r : Request) → IsValid s → picked s.queue pick ≡ Some w → length (all_parts s.sent_out) + length (parts_for r.id r.kind) ≤ s.limit
-parts_room s pick w r v e =
-    let few = all_parts-few s.sent_out (λ c h. sent-few s c v h) in
-    let one = parts_for-few r.id r.kind in
-    let room = sent_room s pick w v e in
-    omega (arith, few, one, room)
 
 abbrev sent_history : Inside → Command → HistoryState Command
 sent_history s c = record { items = s.trace.sent_out.items ++ c ∷ []; room = s.trace.sent_out.room }

@@ -12,7 +12,7 @@ use crate::elevator::gathering::{head_after, take_together};
 use crate::elevator::searches::find_listed;
 use crate::reassign::{CAPACITY, EpochQueue, Held, LONGEST, Scheduler};
 use blk_base::NoMemory;
-use order_model::{Command, Commands, Request, Requests, SchedRecord};
+use order_model::{Command, Request, SchedRecord, Tally};
 use std::alloc::Global;
 use std::marker::Model;
 
@@ -56,8 +56,8 @@ impl Elevator {
             queue: EpochQueue::make(alloc, CAPACITY)?,
             head: 0,
             trace: SchedRecord {
-                accepted: Requests::make(alloc, room)?,
-                sent_out: Commands::make(alloc, room)?,
+                accepted: Tally::make(room),
+                sent_out: Tally::make(room),
             },
         })
     }

@@ -7,7 +7,7 @@ ghost use Rattle.schedulers.specs.reassign.laws.SchedulerLaws as laws;
 
 use crate::reassign::{CAPACITY, EpochQueue, Held, LONGEST, Scheduler};
 use blk_base::NoMemory;
-use order_model::{Command, Commands, Request, Requests, SchedRecord};
+use order_model::{Command, Request, SchedRecord, Tally};
 use std::alloc::Global;
 use std::marker::Model;
 
@@ -48,8 +48,8 @@ impl Sched {
             limit,
             queue: EpochQueue::make(alloc, CAPACITY)?,
             trace: SchedRecord {
-                accepted: Requests::make(alloc, room)?,
-                sent_out: Commands::make(alloc, room)?,
+                accepted: Tally::make(room),
+                sent_out: Tally::make(room),
             },
         })
     }

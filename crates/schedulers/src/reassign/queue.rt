@@ -7,7 +7,7 @@ ghost use Rattle.schedulers.specs.reassign.code.Kept.{IsPicked};
 
 use crate::reassign::closing::{Closing, Held};
 use blk_base::NoMemory;
-use order_model::{Kind, Request, Requests};
+use order_model::{Kind, Request, Tally};
 use std::alloc::Global;
 use std::collections::VecDeque;
 use std::marker::Model;
@@ -97,7 +97,7 @@ impl EpochQueue {
     /// Takes a request as `accept` does, and records it as it came.
     pub fn accept_recorded(
         &mut self,
-        history: &mut Requests,
+        history: &mut Tally<Request>,
         r: Request,
     ) -> Result<(), (Request, Held)>
         requires barrier { r.barrier ≡ true → r.ordered ≡ true }

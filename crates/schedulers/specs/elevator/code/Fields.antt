@@ -9,6 +9,6 @@ state_of s = record { limit = s.limit; accepted = s.trace.accepted.items; sent_o
 
 pub record IsInside (s : Inside) : Type 0 where
   pub valid : IsElevator (state_of s)
-  -- both histories have room for what may be accepted
+  -- both histories are of what may be accepted
   pub accepted : s.trace.accepted.room ≡ s.limit
   pub sent_out : s.trace.sent_out.room ≡ s.limit

@@ -1,5 +1,5 @@
 -- The list has no more requests than wait.
-use Rattle.std.proofs.Common.{length, arith}
+use Rattle.std.proofs.Common.{arith}
 use Rattle.std.proofs.lemmas.Option.{slice_get_past}
 use Rattle.std.proofs.lemmas.List.Sums.{length-filter, count_by-le-length}
 use Rattle.schedulers.specs.reassign.Epoch.{may_leave, eligible}

@@ -6,18 +6,11 @@ use Rattle.schedulers.proofs.elevator.elevator.ElevatorScheduler.dispatch_into.G
 pub take_together-requires-clause-may : goal.take_together-requires-clause-may
 take_together-requires-clause-may c = λ w there. found_leaves c.self.inside c.args.pick c.in-Some.at w c.in-Some.ensures there
 
-pub push-requires-clause-commands : goal.push-requires-clause-commands
-push-requires-clause-commands c =
+pub push-requires : goal.push-requires
+push-requires c =
     let e = c.take_together.ensures in
     let t = sent_is c.self.inside c.args.pick c.in-Some.at c.take_together.result _ _ c.in-Some.ensures c.if-not-take_together.false e.command e.state in
-    let room = (sent_room c.self.inside c.args.pick _ _ c.self.invariant t).0 in
-    omega (arith, room, c.self.invariant.sent_out)
-
-pub push-requires-clause-parts : goal.push-requires-clause-parts
-push-requires-clause-parts c =
-    let e = c.take_together.ensures in
-    let t = sent_is c.self.inside c.args.pick c.in-Some.at c.take_together.result _ _ c.in-Some.ensures c.if-not-take_together.false e.command e.state in
-    let room = (sent_room c.self.inside c.args.pick _ _ c.self.invariant t).1 in
+    let room = sent_room c.self.inside c.args.pick _ _ c.self.invariant t in
     omega (arith, room, c.self.invariant.sent_out)
 
 pub invariant_of-self-2 : goal.invariant_of-self-2

@@ -2,20 +2,14 @@
 use Rattle.std.proofs.Common.{◌∙◌, ap₂, sym, arith}
 use Rattle.order_model.specs.Single.{command_of_request}
 use Rattle.schedulers.specs.epochs.code.Fields.{state_of}
-use Rattle.schedulers.proofs.EpochsLemmas.Steps.{leaving-some, sent_room, parts_room, dispatched_fields}
+use Rattle.schedulers.proofs.EpochsLemmas.Steps.{leaving-some, sent_room, dispatched_fields}
 use Rattle.schedulers.proofs.epochs.sched.SchedScheduler.dispatch_into.Goals as goal
 
-pub push-requires-clause-commands : goal.push-requires-clause-commands
-push-requires-clause-commands c =
+pub push-requires : goal.push-requires
+push-requires c =
     let p = leaving-some c.self.inside.queue _ _ _ c.in-Some.ensures.given in
     let room = sent_room (state_of c.self.inside) c.args.pick p.0 c.self.invariant.valid p.1 in
     omega (arith, room, c.self.invariant.sent_out)
-
-pub push-requires-clause-parts : goal.push-requires-clause-parts
-push-requires-clause-parts c =
-    let p = leaving-some c.self.inside.queue _ _ _ c.in-Some.ensures.given in
-    let room = parts_room (state_of c.self.inside) c.args.pick p.0 c.in-Some.r c.self.invariant.valid p.1 in
-    rw (c.carry.ensures, c.self.invariant.sent_out) room
 
 pub invariant_of-self-2 : goal.invariant_of-self-2
 invariant_of-self-2 c =
