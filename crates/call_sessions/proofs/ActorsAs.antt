@@ -13,7 +13,7 @@ use Rattle.host_machine.specs.Host.{Turned}
 use Rattle.host_machine.specs.Model.{Model}
 use Rattle.host_machine.specs.Parts.{noted_cuts, released}
 use Rattle.host_machine.specs.State.{Host, Setup}
-use Rattle.host_machine.proofs.Parts.{flush_on_part, commit_on_part}
+use Rattle.host_machine.proofs.Parts.{flush_on_part, take_on_part, commit_on_part}
 use Rattle.call_sessions.specs.CallsAs.{entry_as, thread_as, host_as, turned_as, model_as}
 
 module _ {T V C D R : Type 0} (f : C → D) (M : Model T V D R) (u : Setup) where
@@ -24,6 +24,9 @@ module _ {T V C D R : Type 0} (f : C → D) (M : Model T V D R) (u : Setup) wher
 
   pub flush_as : (full : Bool) (s : Host V C R) (next : Option Completion) → host.flush_step M u full (host_as f s) next ≡ turned_as f (host.flush_step N u full s next)
   flush_as full s next = flush_on_part M u full (host_as f s) next ∙ ap (turned_as f) (sym (flush_on_part N u full s next))
+
+  pub take_as : (s : Host V C R) (next : Option Completion) → host.take_step M u (host_as f s) next ≡ turned_as f (host.take_step N u s next)
+  take_as s next = take_on_part M u (host_as f s) next ∙ ap (turned_as f) (sym (take_on_part N u s next))
 
   pub commit_step_as : (full : Bool) (s : Host V C R) → host.commit_step M u full (host_as f s) ≡ turned_as f (host.commit_step N u full s)
   commit_step_as full s =

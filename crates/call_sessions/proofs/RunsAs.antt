@@ -9,13 +9,13 @@ use Rattle.host_machine.specs.State.{Entry, Thread, Host}
 use Rattle.host_machine.specs.Views.{is_answered, cut_of, some_in, acted, tree_after, writes_at, alters_at, history_of}
 use Rattle.host_machine.specs.Host.{opened}
 use Rattle.host_machine.specs.laws.Contract.{Over}
-use Rattle.host_machine.specs.runs.Runs.{Event, Call, Commit, WriteBack, FlushStep, stepped, steps}
+use Rattle.host_machine.specs.runs.Runs.{Event, Call, Commit, WriteBack, FlushStep, TakeStep, stepped, steps}
 use Rattle.journal_ring.specs.LogRing.{LogRing}
 use Rattle.flush_actor.specs.Waits.{no_wait}
 use Rattle.flush_actor.specs.declared.wait.Wait.{Wait}
 use Rattle.call_sessions.specs.CallsAs.{entry_as, thread_as, host_as, model_as, over_as}
 use Rattle.call_sessions.proofs.StepsAs.{advance_as}
-use Rattle.call_sessions.proofs.ActorsAs.{flush_as, commit_step_as, writeback_as}
+use Rattle.call_sessions.proofs.ActorsAs.{flush_as, take_as, commit_step_as, writeback_as}
 
 -- ---- runs
 
@@ -25,6 +25,7 @@ module _ {A T V C D R : Type 0} (f : C → D) (o : Over A T V D R) where
   stepped_on s (Commit full) = ap (λ x. x.host) (commit_step_as f o.model o.setup full s)
   stepped_on s (WriteBack full pick) = ap (λ x. x.host) (writeback_as f o.model o.setup full s pick)
   stepped_on s (FlushStep full next) = ap (λ x. x.host) (flush_as f o.model o.setup full s next)
+  stepped_on s (TakeStep next) = ap (λ x. x.host) (take_as f o.model o.setup s next)
 
   pub steps_on : (s : Host V C R) (es : List Event) → steps o (host_as f s) es ≡ host_as f (steps (over_as f o) s es)
   steps_on s [] = refl

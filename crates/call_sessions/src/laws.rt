@@ -36,6 +36,8 @@ pub fn forgetting_proofs_changes_no_step()
         machine.writeback (call_over s).model (call_over s).setup full (plain_host h) pick ≡ turned_as plain_call (machine.writeback (over s).model (over s).setup full h pick) }
     ensures flush { (s : Opening) (full : Bool) (h : Host VolumeNow ByteCall Reply) (next : Option Completion) →
         machine.flush_step (call_over s).model (call_over s).setup full (plain_host h) next ≡ turned_as plain_call (machine.flush_step (over s).model (over s).setup full h next) }
+    ensures take { (s : Opening) (h : Host VolumeNow ByteCall Reply) (next : Option Completion) →
+        machine.take_step (call_over s).model (call_over s).setup (plain_host h) next ≡ turned_as plain_call (machine.take_step (over s).model (over s).setup h next) }
     ensures run { (s : Opening) (h : Host VolumeNow ByteCall Reply) (events : List Event) →
         steps (call_over s) (plain_host h) events ≡ plain_host (steps (over s) h events) }
 {}

@@ -13,7 +13,7 @@ use Rattle.journal_ring.specs.LogRing.{LogRing}
 use Rattle.journal_ring.specs.running.Open.{OpenTransaction}
 use Rattle.flush_actor.specs.Actor.{FlushActor, with_part}
 use Rattle.flush_actor.specs.Part.{FlushPart, at_limit}
-use Rattle.flush_actor.specs.Steps.{FlushTurn, submits, submit_flush, take_completion, flush_due, flush_turn}
+use Rattle.flush_actor.specs.Steps.{FlushTurn, submits, submit_flush, flush_due, flush_turn, take_turn}
 use Rattle.commit_actor.specs.Actor.{LogState}
 use Rattle.commit_actor.specs.code.Fields.{IsLog, IsAtRest, IsInPhase}
 use Rattle.commit_actor.specs.declared.phase.Phase.{Phase}
@@ -33,6 +33,10 @@ Grows f x = (x.limit ≡ f.limit) × (length f.requests ≤ length x.requests) �
 abbrev GrowsTo : FlushPart → FlushTurn → Type 0
 GrowsTo f x = Grows f x.part
 
+take_grows : (next : Option Completion) (f : FlushPart) → GrowsTo f (take_turn next f)
+take_grows None f = (refl, omega arith, λ h. h)
+take_grows (Some c) f = (refl, omega arith, λ h. h)
+
 step_grows : (full : Bool) (next : Option Completion) (f : FlushPart) → GrowsTo f (flush_turn full next f)
 step_grows full next f = due (flush_due f)
   where
@@ -44,22 +48,26 @@ step_grows full next f = due (flush_due f)
     sends false true e = (refl, omega arith, λ h. h)
     sends false false e = let less = leb-false f.limit (length f.requests) e in (refl, omega (arith, size), λ h. omega (arith, size, less))
 
-    taken : (o : Option Completion) → GrowsTo f (elim o as (λ _. FlushTurn) [ None ↦ record { part = f; turn = turns.Idle } | Some c ↦ record { part = take_completion c f; turn = turns.Did } ])
-    taken None = (refl, omega arith, λ h. h)
-    taken (Some c) = (refl, omega arith, λ h. h)
-
-    due : (b : Bool) → GrowsTo f (if b then submits full f (submit_flush f) else elim next as (λ _. FlushTurn) [ None ↦ record { part = f; turn = turns.Idle } | Some c ↦ record { part = take_completion c f; turn = turns.Did } ])
+    due : (b : Bool) → GrowsTo f (if b then submits full f (submit_flush f) else take_turn next f)
     due true = sends (at_limit f) full refl
-    due false = taken next
+    due false = take_grows next f
+
+grown : (f new : FlushActor) (t : Turn) (x : FlushTurn) → GrowsTo f.part x → record { part = new.part; turn = t } ≡ x → new.blocks ≡ f.blocks → length f.part.requests ≤ f.part.limit → IsKept f new
+grown f new t x grows e blocks few =
+    let now = subst (Grows f.part) (sym (ap (λ (y : FlushTurn). y.part) e)) grows in
+    record { limit = now.0; blocks = blocks; few = now.2 few; more = now.1 }
 
 pub step_keeps : (f new : FlushActor) (t : Turn) (full : Bool) (next : Option Completion) → record { part = new.part; turn = t } ≡ flush_turn full next f.part → new.blocks ≡ f.blocks → length f.part.requests ≤ f.part.limit → IsKept f new
-step_keeps f new t full next e blocks few =
-    let part = ap (λ (x : FlushTurn). x.part) e in
-    let grows = subst (Grows f.part) (sym part) (step_grows full next f.part) in
-    record { limit = grows.0; blocks = blocks; few = grows.2 few; more = grows.1 }
+step_keeps f new t full next = grown f new t (flush_turn full next f.part) (step_grows full next f.part)
+
+pub take_keeps : (f new : FlushActor) (t : Turn) (next : Option Completion) → record { part = new.part; turn = t } ≡ take_turn next f.part → new.blocks ≡ f.blocks → length f.part.requests ≤ f.part.limit → IsKept f new
+take_keeps f new t next = grown f new t (take_turn next f.part) (take_grows next f.part)
 
 pub step_more : (f new : FlushPart) (t : Turn) (full : Bool) (next : Option Completion) → record { part = new; turn = t } ≡ flush_turn full next f → length f.requests ≤ length new.requests
 step_more f new t full next e = (subst (Grows f) (sym (ap (λ (x : FlushTurn). x.part) e)) (step_grows full next f)).1
+
+pub take_more : (f new : FlushPart) (t : Turn) (next : Option Completion) → record { part = new; turn = t } ≡ take_turn next f → length f.requests ≤ length new.requests
+take_more f new t next e = (subst (Grows f) (sym (ap (λ (x : FlushTurn). x.part) e)) (take_grows next f)).1
 
 -- ---- the running transaction
 

@@ -12,7 +12,7 @@ ghost use Rattle.journal_ring.specs.running.Closing.{writers};
 ghost use Rattle.journal_ring.specs.running.Running.{log_needs, touched_one, revoked_one, changed_one, wanted_one};
 ghost use Rattle.journal_ring.specs.running.Open.{reserved, noted, with_running};
 ghost use Rattle.flush_actor.specs.conflicts.Conflicts.{want};
-ghost use Rattle.flush_actor.specs.Steps.{submit_turn, after_submit, flush_turn};
+ghost use Rattle.flush_actor.specs.Steps.{submit_turn, after_submit, flush_turn, take_turn};
 ghost use Rattle.flush_actor.specs.Outcomes.{is_queue_full, sent_between, first_since};
 ghost use Rattle.commit_actor.specs.Actor.{made, with_part, with_parts, part_of, builds_plan};
 ghost use Rattle.commit_actor.specs.Calls.{with_flush, open_of, with_open};
@@ -184,6 +184,18 @@ impl JournalPart {
         ensures from { I.rest from.new ≡ I.rest from.old }
     {
         self.log.flush_step(out, from)
+    }
+
+    /// Takes a completion, though a flush may be due.
+    pub fn take_step<I: Inlet<Completion>>(&mut self, from: &mut I) -> Turn
+        requires { length self.old.part.flush.taken ≤ self.old.part.flush.limit }
+        ensures step { record { part = self.new.part.flush; turn = result } ≡ take_turn (first_since (I.taken from.old) (I.taken from.new)) self.old.part.flush }
+        ensures same { self.new ≡ with_flush self.old self.new.part.flush }
+        ensures taken { I.taken from.new ≡ I.taken from.old ++ drop (length self.old.part.flush.taken) self.new.part.flush.taken }
+        ensures empty { result ≡ turns.Idle → I.was_empty from.old from.new }
+        ensures from { I.rest from.new ≡ I.rest from.old }
+    {
+        self.log.take_step(from)
     }
 
     /// The call of a thread waits for this from now on.

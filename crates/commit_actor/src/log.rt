@@ -16,7 +16,7 @@ ghost use Rattle.journal_ring.specs.running.Open.{reserved, noted, with_running}
 ghost use Rattle.flush_actor.specs.Actor.{with_conflicts};
 ghost use Rattle.flush_actor.specs.Outcomes.{is_did, is_queue_full, sent_between, first_since};
 ghost use Rattle.flush_actor.specs.Part.{is_over};
-ghost use Rattle.flush_actor.specs.Steps.{submit_turn, after_submit, flush_turn};
+ghost use Rattle.flush_actor.specs.Steps.{submit_turn, after_submit, flush_turn, take_turn};
 ghost use Rattle.commit_actor.specs.Actor.{made_log, part_of, with_parts, with_flush, with_open, open_of, if_did};
 ghost use Rattle.commit_actor.specs.Journal.{Closing, Committing};
 ghost use Rattle.commit_actor.specs.Steps.{page_sent, planned_out, checkpoint, plan_built, committed};
@@ -24,7 +24,7 @@ ghost use Rattle.commit_actor.specs.code.Sending.{plan_left, rest_of, planned_of
 
 use crate::sending::{PlannedPut, Sending};
 use blk_base::{BodySource, NoMemory};
-use flush_actor::{FlushPart, Wait, flush_step};
+use flush_actor::{FlushPart, Wait, flush_step, take_step};
 use journal_blocks::write_super;
 use journal_ring::running::Running;
 use journal_ring::{Bodies, LoggedBody, Ring};
@@ -135,6 +135,18 @@ impl Log {
         ensures from { I.rest from.new ≡ I.rest from.old }
     {
         flush_step(&mut self.flush, out, from)
+    }
+
+    // A completion is taken, though a flush may be due.
+    pub fn take_step<I: Inlet<Completion>>(&mut self, from: &mut I) -> Turn
+        requires { length self.old.flush.taken ≤ self.old.flush.limit }
+        ensures step { record { part = self.new.flush; turn = result } ≡ take_turn (first_since (I.taken from.old) (I.taken from.new)) self.old.flush }
+        ensures same { self.new ≡ with_flush self.old self.new.flush }
+        ensures taken { I.taken from.new ≡ I.taken from.old ++ drop (length self.old.flush.taken) self.new.flush.taken }
+        ensures empty { result ≡ Idle → I.was_empty from.old from.new }
+        ensures from { I.rest from.new ≡ I.rest from.old }
+    {
+        take_step(&mut self.flush, from)
     }
 
     // The call of a thread waits for this.

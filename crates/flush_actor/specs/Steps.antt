@@ -71,11 +71,13 @@ submits full f out =
 abbrev pub submit_flush : FlushPart → FlushPart
 submit_flush f = submit (record { id = length f.requests; kind = puts.Flush; ordered = true; barrier = true }) notes.Flush f
 
+-- a completion, where one waits
+abbrev pub take_turn : Option Completion → FlushPart → FlushTurn
+take_turn next f = elim next as (λ _. FlushTurn) [
+  | None ↦ record { part = f; turn = turns.Idle }
+  | Some c ↦ record { part = take_completion c f; turn = turns.Did }
+]
+
 -- a flush where one is due, else a completion
 abbrev pub flush_turn : Bool → Option Completion → FlushPart → FlushTurn
-flush_turn full next f =
-    if flush_due f then submits full f (submit_flush f)
-    else elim next as (λ _. FlushTurn) [
-      | None ↦ record { part = f; turn = turns.Idle }
-      | Some c ↦ record { part = take_completion c f; turn = turns.Did }
-    ]
+flush_turn full next f = if flush_due f then submits full f (submit_flush f) else take_turn next f

@@ -19,7 +19,7 @@ mod submission;
 mod wait;
 mod waits;
 
-pub use actor::flush_step;
+pub use actor::{flush_step, take_step};
 pub use call_kind::CallKind;
 pub use flush_part::FlushPart;
 pub use wait::Wait;

@@ -12,7 +12,7 @@ use Rattle.journal_ring.specs.LogRing.{LogRing, ring_free}
 use Rattle.journal_ring.specs.running.Running.{Running, log_needs}
 use Rattle.journal_ring.specs.running.Plan.{Planned}
 use Rattle.flush_actor.specs.Part.{FlushPart, at_limit, is_over}
-use Rattle.flush_actor.specs.Steps.{FlushTurn, flush_due, flush_turn, submit_flush, take_completion}
+use Rattle.flush_actor.specs.Steps.{FlushTurn, flush_due, flush_turn, take_turn, submit_flush}
 use Rattle.commit_actor.specs.Actor.{builds_plan}
 use Rattle.commit_actor.specs.Journal.{Plan, Phase, Idle, Closing, Committing, JournalPart, is_closing, committing}
 use Rattle.commit_actor.specs.Steps as actor
@@ -124,23 +124,34 @@ module _ {T V C R : Type 0} (M : Model T V C R) (u : Setup) where
 
   -- ---- the flush actor
 
+  abbrev flushed : Host V C R → FlushTurn → Turned V C R
+  flushed s x = record { host = machine.with_flush M u s x.part; turn = x.turn }
+
+  flush_in : (s : Host V C R) (j : JournalPart) (t : Turn) (x : FlushTurn) → (let y : FlushTurn = record { part = j.flush; turn = t } in y) ≡ x → j ≡ record s.journal { flush = j.flush }
+      → (let y : Turned V C R = record { host = record s { journal = j }; turn = t } in y) ≡ flushed s x
+  flush_in s j t x done same = ap (λ (k : JournalPart). let y : Turned V C R = record { host = record s { journal = k }; turn = t } in y) same ∙ ap (flushed s) done
+
+  took : (s : Host V C R) (next : Option Completion) → flushed s (take_turn next s.journal.flush) ≡ machine.take_step M u s next
+  took s None = refl
+  took s (Some c) = refl
+
+  pub take_done : (s : Host V C R) (next : Option Completion) (j : JournalPart) (t : Turn)
+      → (let x : FlushTurn = record { part = j.flush; turn = t } in x) ≡ take_turn next s.journal.flush → j ≡ record s.journal { flush = j.flush }
+      → (let x : Turned V C R = record { host = record s { journal = j }; turn = t } in x) ≡ machine.take_step M u s next
+  take_done s next j t done same = flush_in s j t (take_turn next s.journal.flush) done same ∙ took s next
+
   pub flush_done : (s : Host V C R) (q : Bool) (next : Option Completion) (j : JournalPart) (t : Turn)
       → (let x : FlushTurn = record { part = j.flush; turn = t } in x) ≡ flush_turn q next s.journal.flush → j ≡ record s.journal { flush = j.flush }
       → (let x : Turned V C R = record { host = record s { journal = j }; turn = t } in x) ≡ machine.flush_step M u q s next
   flush_done s q next j t done same =
-      ap (λ (k : JournalPart). let x : Turned V C R = record { host = record s { journal = k }; turn = t } in x) same
-      ∙ ap taken done ∙ by (flush_due s.journal.flush) (at_limit s.journal.flush) q next
+      flush_in s j t (flush_turn q next s.journal.flush) done same ∙ by (flush_due s.journal.flush) (at_limit s.journal.flush) q
     where
-      taken : FlushTurn → Turned V C R
-      taken x = record { host = machine.with_flush M u s x.part; turn = x.turn }
-
-      by : (due limit full : Bool) (o : Option Completion) →
-          taken (if due then if limit then record { part = s.journal.flush; turn = turns.SessionFull } else if full then record { part = s.journal.flush; turn = turns.QueueFull } else record { part = submit_flush s.journal.flush; turn = turns.Did }
-          else elim o as (λ _. FlushTurn) [ None ↦ record { part = s.journal.flush; turn = turns.Idle } | Some c ↦ record { part = take_completion c s.journal.flush; turn = turns.Did } ])
+      by : (due limit full : Bool) →
+          flushed s (if due then if limit then record { part = s.journal.flush; turn = turns.SessionFull } else if full then record { part = s.journal.flush; turn = turns.QueueFull } else record { part = submit_flush s.journal.flush; turn = turns.Did }
+          else take_turn next s.journal.flush)
           ≡ (if due then if limit then record { host = s; turn = turns.SessionFull } else if full then record { host = s; turn = turns.QueueFull } else record { host = machine.with_flush M u s (submit_flush s.journal.flush); turn = turns.Did }
-          else elim o as (λ _. Turned V C R) [ None ↦ record { host = s; turn = turns.Idle } | Some c ↦ record { host = machine.with_flush M u s (take_completion c s.journal.flush); turn = turns.Did } ])
-      by true true full o = refl
-      by true false true o = refl
-      by true false false o = refl
-      by false limit full None = refl
-      by false limit full (Some c) = refl
+          else machine.take_step M u s next)
+      by true true full = refl
+      by true false true = refl
+      by true false false = refl
+      by false limit full = took s next

@@ -15,7 +15,7 @@ use Rattle.journal_ring.specs.running.Running.{log_needs}
 use Rattle.journal_ring.specs.running.Plan.{Writers, Planned}
 use Rattle.flush_actor.specs.Kinds.{is_data, is_durable}
 use Rattle.flush_actor.specs.Part.{FlushPart, is_over, at_limit, is_flushed_after, flush_above, last_put}
-use Rattle.flush_actor.specs.Steps.{FlushTurn, flush_due, flush_turn, submit_flush, take_completion}
+use Rattle.flush_actor.specs.Steps.{flush_due, flush_turn, take_turn, submit_flush}
 use Rattle.flush_actor.specs.Waits.{need_commit}
 use Rattle.flush_actor.specs.declared.wait.Wait.{Wait}
 use Rattle.commit_actor.specs.Journal.{Plan, Phase, Idle, Closing, Committing, JournalPart, is_submitted}
@@ -31,17 +31,20 @@ waits_in j = length j.flush.waits
 
 -- ---- the actors
 
+pub take_keeps : (next : Option Completion) (f : FlushPart) → length (take_turn next f).part.waits ≡ length f.waits
+take_keeps None f = refl
+take_keeps (Some c) f = refl
+
 pub flush_keeps : (q : Bool) (next : Option Completion) (f : FlushPart) → length (flush_turn q next f).part.waits ≡ length f.waits
-flush_keeps q next f = by (flush_due f) (at_limit f) q next
+flush_keeps q next f = by (flush_due f) (at_limit f) q
   where
-    by : (due limit full : Bool) (o : Option Completion) →
+    by : (due limit full : Bool) →
         length (if due then if limit then record { part = f; turn = turns.SessionFull } else if full then record { part = f; turn = turns.QueueFull } else record { part = submit_flush f; turn = turns.Did }
-        else elim o as (λ _. FlushTurn) [ None ↦ record { part = f; turn = turns.Idle } | Some c ↦ record { part = take_completion c f; turn = turns.Did } ]).part.waits ≡ length f.waits
-    by true true full o = refl
-    by true false true o = refl
-    by true false false o = refl
-    by false limit full None = refl
-    by false limit full (Some c) = refl
+        else take_turn next f).part.waits ≡ length f.waits
+    by true true full = refl
+    by true false true = refl
+    by true false false = refl
+    by false limit full = take_keeps next f
 
 module _ (w : Writers) (journal sequence : ℕ) (q : Bool) (bodies : ℕ → List ℕ) (j : JournalPart) (ps : List CachedPage) where
   abbrev Keeps : CommitTurn → Type 0

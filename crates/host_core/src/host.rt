@@ -223,6 +223,20 @@ impl Host {
         self.parts.journal.flush_step(out, from)
     }
 
+    /// Takes a completion, though a flush may be due: for where none can go out, since nothing leaves the submission queue
+    /// behind a power cut. It takes no memory.
+    pub fn take_step<I: Inlet<Completion>>(&mut self, from: &mut I) -> Turn
+        requires { length self.old.host.journal.flush.taken ≤ self.old.host.journal.flush.limit }
+        ensures step { record { host = self.new.host; turn = result } ≡
+            machine.take_step (model_now self.old) (setup_now self.old) self.old.host (first_since (I.taken from.old) (I.taken from.new)) }
+        ensures same { self.new ≡ with_host self.old self.new.host }
+        ensures taken { I.taken from.new ≡ I.taken from.old ++ drop (length self.old.host.journal.flush.taken) self.new.host.journal.flush.taken }
+        ensures empty { result ≡ turns.Idle → I.was_empty from.old from.new }
+        ensures from { I.rest from.new ≡ I.rest from.old }
+    {
+        self.parts.journal.take_step(from)
+    }
+
     /// The step of the commit actor. Only where it builds a plan it takes memory, and where that is refused, all is as it
     /// was.
     pub fn commit_step<O: Outlet<Request>>(&mut self, alloc: Global, out: &mut O) -> Turn

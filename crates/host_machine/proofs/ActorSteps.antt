@@ -30,7 +30,7 @@ use Rattle.host_machine.proofs.RuleSteps.{send_both}
 use Rattle.host_machine.proofs.Sends.{plainly}
 use Rattle.host_machine.proofs.Steps.{first_page-In, none_first}
 use Rattle.host_machine.specs.laws.Choices.{either}
-use Rattle.host_machine.specs.Host.{Turned, submits, build_plan, checkpoint, close_step, plan_sent, in_phase, commit_step, writeback, flush_step, send_page, with_flush}
+use Rattle.host_machine.specs.Host.{Turned, submits, build_plan, checkpoint, close_step, plan_sent, in_phase, commit_step, writeback, flush_step, take_step, send_page}
 use Rattle.number_sets.specs.Sets.{has}
 use Rattle.flush_actor.specs.conflicts.Conflicts.{least}
 use Rattle.journal_ring.specs.LogRing.{ring_free}
@@ -39,7 +39,7 @@ use Rattle.journal_ring.specs.running.Plan.{Planned}
 use Rattle.host_machine.specs.State.{Entry, Host}
 use Rattle.commit_actor.specs.Journal.{Plan, Phase, Idle, Closing, Committing, is_submitted}
 use Rattle.flush_actor.specs.Part.{is_over, at_limit}
-use Rattle.flush_actor.specs.Steps.{flush_due, take_completion}
+use Rattle.flush_actor.specs.Steps.{flush_due}
 use Rattle.host_machine.specs.laws.Contract.{Over, Contract, ImagesFacts, InPhase, session, KeepsImages}
 use Rattle.host_machine.specs.laws.Facts.{PagesSent}
 use Rattle.host_machine.specs.laws.PlanNotes.{is_plan_note, IsRestOf, BarrierAhead}
@@ -123,6 +123,10 @@ module _ {A T V C R : Type 0} {o : Over A T V C R} {Stands : V → T → Type 0}
 
     -- ---- the flush actor
 
+    pub take_step_keeps : (next : Option Completion) → HasImages (take_step o.model o.setup s next).host
+    take_step_keeps None = (txs, N, facts)
+    take_step_keeps (Some c) = (txs, N, facts)
+
     pub flush_step_keeps : (full : Bool) (next : Option Completion) → HasImages (flush_step o.model o.setup full s next).host
     flush_step_keeps full next =
         either (λ (x : Turned V C R). HasImages x.host) (flush_due s.journal.flush) _ _
@@ -131,11 +135,7 @@ module _ {A T V C R : Type 0} {o : Over A T V C R} {Stands : V → T → Type 0}
           N,
           (request_keeps contract s txs N facts (record { id = length s.journal.flush.requests; kind = puts.Flush; ordered = true; barrier = true }) notes.Flush (λ k e. let z : ⊥ = cc in z) (λ f i w e. let z : ⊥ = cc in z), facts.1),
         ))
-        (λ e. by next)
-      where
-        by : (x : Option Completion) → HasImages (elim x as (λ _. Turned V C R) [ None ↦ record { host = s; turn = turns.Idle } | Some c ↦ record { host = with_flush o.model o.setup s (take_completion c s.journal.flush); turn = turns.Did } ]).host
-        by None = (txs, N, facts)
-        by (Some c) = (txs, N, facts)
+        (λ e. take_step_keeps next)
 
     -- ---- the commit actor
 

@@ -13,17 +13,21 @@ use Rattle.journal_ring.specs.running.Plan.{Planned}
 use Rattle.journal_ring.specs.running.Running.{log_needs}
 use Rattle.flush_actor.specs.Part.{is_over, at_limit}
 use Rattle.flush_actor.specs.Steps as flush
-use Rattle.flush_actor.specs.Steps.{flush_due, flush_turn, submit_flush, take_completion}
+use Rattle.flush_actor.specs.Steps.{flush_due, flush_turn, take_turn, submit_flush}
 use Rattle.commit_actor.specs.Journal.{Plan, Phase, Idle, Closing, Committing, JournalPart}
 use Rattle.commit_actor.specs.Steps as part
 use Rattle.commit_actor.specs.Steps.{CommitTurn, commit_turn}
-use Rattle.host_machine.specs.Host.{Turned, submits, send_page, checkpoint, build_plan, close_step, plan_sent, in_phase, commit_step, flush_step, with_flush}
+use Rattle.host_machine.specs.Host.{Turned, submits, send_page, checkpoint, build_plan, close_step, plan_sent, in_phase, commit_step, flush_step, take_step, with_flush}
 use Rattle.host_machine.specs.Model.{Model}
 use Rattle.host_machine.specs.Parts.{noted_cuts, released, commit_from, with_commit, with_flushed}
 use Rattle.host_machine.specs.State.{Host, Setup}
 
 module _ {T V C R : Type 0} (M : Model T V C R) (u : Setup) where
   -- ---- the flush actor
+
+  pub take_on_part : (s : Host V C R) (next : Option Completion) → take_step M u s next ≡ with_flushed M u s (take_turn next s.journal.flush)
+  take_on_part s None = refl
+  take_on_part s (Some c) = refl
 
   pub flush_on_part : (full : Bool) (s : Host V C R) (next : Option Completion) → flush_step M u full s next ≡ with_flushed M u s (flush_turn full next s.journal.flush)
   flush_on_part full s next = due (flush_due s.journal.flush)
@@ -35,17 +39,11 @@ module _ {T V C R : Type 0} (M : Model T V C R) (u : Setup) where
       sends false true = refl
       sends false false = refl
 
-      taken : (o : Option Completion)
-          → (elim o as (λ _. Turned V C R) [ None ↦ record { host = s; turn = turns.Idle } | Some c ↦ record { host = with_flush M u s (take_completion c s.journal.flush); turn = turns.Did } ])
-          ≡ with_flushed M u s (elim o as (λ _. flush.FlushTurn) [ None ↦ record { part = s.journal.flush; turn = turns.Idle } | Some c ↦ record { part = take_completion c s.journal.flush; turn = turns.Did } ])
-      taken None = refl
-      taken (Some c) = refl
-
       due : (b : Bool)
-          → (if b then submits M u full s (with_flush M u s (submit_flush s.journal.flush)) else elim next as (λ _. Turned V C R) [ None ↦ record { host = s; turn = turns.Idle } | Some c ↦ record { host = with_flush M u s (take_completion c s.journal.flush); turn = turns.Did } ])
-          ≡ with_flushed M u s (if b then flush.submits full s.journal.flush (submit_flush s.journal.flush) else elim next as (λ _. flush.FlushTurn) [ None ↦ record { part = s.journal.flush; turn = turns.Idle } | Some c ↦ record { part = take_completion c s.journal.flush; turn = turns.Did } ])
+          → (if b then submits M u full s (with_flush M u s (submit_flush s.journal.flush)) else take_step M u s next)
+          ≡ with_flushed M u s (if b then flush.submits full s.journal.flush (submit_flush s.journal.flush) else take_turn next s.journal.flush)
       due true = sends (at_limit s.journal.flush) full
-      due false = taken next
+      due false = take_on_part s next
 
   -- ---- the commit actor
 

@@ -379,15 +379,19 @@ module _ {T V C R : Type 0} (M : Model T V C R) (u : Setup) where
         | Some p ↦ submits full s (send_page s p (not (is_submitted s.journal (slice_index_or s.owners p.block 0))) false)
       ]
 
+  -- a completion, where one waits
+  abbrev pub take_step : Host V C R → Option Completion → Turned V C R
+  take_step s next = elim next as (λ _. Turned V C R) [
+    | None ↦ record { host = s; turn = turns.Idle }
+    | Some c ↦ record { host = with_flush s (take_completion c s.journal.flush); turn = turns.Did }
+  ]
+
   -- a flush where one is due, else a completion
   abbrev pub flush_step : Bool → Host V C R → Option Completion → Turned V C R
   flush_step full s next =
       let f = s.journal.flush in
       if flush_due f then submits full s (with_flush s (submit (record { id = length f.requests; kind = puts.Flush; ordered = true; barrier = true }) notes.Flush f))
-      else elim next as (λ _. Turned V C R) [
-        | None ↦ record { host = s; turn = turns.Idle }
-        | Some c ↦ record { host = with_flush s (take_completion c f); turn = turns.Did }
-      ]
+      else take_step s next
 
   -- the host of a session that is opened: with a volume, the log's places, as many zones, and programs
   abbrev pub opened : V → LogRing → ℕ → ℕ → List (List C) → Host V C R

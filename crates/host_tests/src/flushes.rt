@@ -2,7 +2,7 @@
 ghost use Rattle.std.specs.Prelude.{◌≡◌};
 
 use blk_base::Block;
-use flush_actor::{CallKind, FlushPart, Wait, flush_step};
+use flush_actor::{CallKind, FlushPart, Wait, flush_step, take_step};
 use order_model::{Completion, Inlet, Kind, ListQueue, Note, Outlet, Request, Turn};
 use std::alloc::Global;
 use std::process::Abort;
@@ -56,6 +56,17 @@ impl Setting {
         flush_step(&mut self.part, &mut self.out, &mut self.from)
     }
 
+    // The device tells this, and it is taken, whatever is due.
+    fn take(&mut self, told: Option<Completion>) -> Turn {
+        if let Some(completion) = told {
+            let _ = self.from.put(completion);
+        }
+        if self.part.taken() > self.part.limit() {
+            return Turn::NoMemory;
+        }
+        take_step(&mut self.part, &mut self.from)
+    }
+
     // Whether a flush is due, was submitted and is done.
     fn flush(&self) -> [bool; 3] {
         [
@@ -94,6 +105,33 @@ fn expect_turns(rt: &impl Abort, session: &mut Setting, rows: &[(Option<Completi
     for (told, turn) in rows {
         assert_eq!(rt; session.step(*told), *turn, "{told:?}");
     }
+}
+
+// Behind a power cut nothing leaves the queue: the cut is heard of though a flush is due and finds no room.
+#[test]
+fn power_cut_is_heard_while_a_flush_finds_no_room(rt: HostRuntime) {
+    let mut session = waiting(&rt, rt.alloc(), CallKind::FileSync);
+    let kind = Kind::Put {
+        block: 4,
+        body: Block::fill(2),
+    };
+    let turn = session
+        .part
+        .submit(kind, true, false, Note::Super, &mut session.out);
+    assert_eq!(rt; turn, Turn::Did);
+    let rows = [
+        (Some(Completion::Moved(0)), Turn::Did),
+        (Some(Completion::Cut), Turn::QueueFull),
+        (None, Turn::QueueFull),
+    ];
+    expect_turns(&rt, &mut session, &rows);
+    assert_eq!(rt; session.take(None), Turn::Did);
+    let told = (session.part.is_cut(), session.part.flush_due());
+    assert_eq!(rt; told, (true, false));
+    assert_eq!(rt;
+        (session.take(None), session.step(None)),
+        (Turn::Idle, Turn::Idle)
+    );
 }
 
 #[test]

@@ -13,8 +13,8 @@ mod ways;
 
 pub use actors::{
     actors_stop_where_a_request_failed, checkpoints_begin_where_the_log_is_full,
-    due_flushes_go_before_completions, pages_go_without_order_behind_a_commit,
-    wanted_transactions_are_closed,
+    completions_can_be_taken_whatever_is_due, due_flushes_go_before_completions,
+    pages_go_without_order_behind_a_commit, wanted_transactions_are_closed,
 };
 pub use begun::{
     barrier_and_sync_calls_begin, begun_calls_wait_for_commit_blocks,

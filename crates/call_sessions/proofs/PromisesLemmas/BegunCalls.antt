@@ -7,10 +7,10 @@ use Rattle.blk_base.specs.laws.Members.{slice_get-push_cases, slice_get-length, 
 use Rattle.host_machine.specs.Host.{Stepped, advance}
 use Rattle.host_machine.specs.State.{What, Begins, Ends, Begun, Thread, Entry, Host}
 use Rattle.host_machine.specs.laws.Contract.{Over}
-use Rattle.host_machine.specs.runs.Runs.{Event, Call, Commit, WriteBack, FlushStep, stepped, steps}
+use Rattle.host_machine.specs.runs.Runs.{Event, Call, Commit, WriteBack, FlushStep, TakeStep, stepped, steps}
 use Rattle.call_sessions.specs.promises.Entries.{BeginsAt, NoneBetween}
 use Rattle.call_sessions.proofs.PromisesLemmas.CallerSteps.{CallStep, Rests, Sends, Starts, Finishes, ThreadStep, Over as NoCall, Calls, caller_step}
-use Rattle.call_sessions.proofs.PromisesLemmas.HostSteps.{commit_quiet, writeback_quiet, flush_quiet}
+use Rattle.call_sessions.proofs.PromisesLemmas.HostSteps.{commit_quiet, writeback_quiet, flush_quiet, take_quiet}
 use Rattle.call_sessions.proofs.PromisesLemmas.Growing.{Extends, one_more, extends_on}
 use Rattle.call_sessions.proofs.PromisesLemmas.Origins.{steps_append}
 
@@ -153,6 +153,7 @@ module _ {A T V C R : Type 0} (o : Over A T V C R) (first : Host V C R) where
         by (Commit full) = (let q = commit_quiet o.model o.setup h full in quiet_step (stepped o h (Commit full)) q.history q.threads)
         by (WriteBack full pick) = (let q = writeback_quiet o.model o.setup h full pick in quiet_step (stepped o h (WriteBack full pick)) q.history q.threads)
         by (FlushStep full next) = (let q = flush_quiet o.model o.setup h full next in quiet_step (stepped o h (FlushStep full next)) q.history q.threads)
+        by (TakeStep next) = (let q = take_quiet o.model o.setup h next in quiet_step (stepped o h (TakeStep next)) q.history q.threads)
 
   pub runs_keep_calls : (done es : List Event) → AreInCall (steps o first done) → AreInCall (steps o first (done ++ es))
   runs_keep_calls done [] old = subst (λ l. AreInCall (steps o first l)) (sym (append-nil done)) old

@@ -9,9 +9,9 @@ use Rattle.order_model.specs.declared.completion.Completion.TheVariants as compl
 use Rattle.order_model.specs.declared.turn.Turn.TheVariants as turns
 use Rattle.flush_actor.specs.Kinds.{is_reading}
 use Rattle.flush_actor.specs.Part.{is_cut, first_failed, has_stopped, is_over}
-use Rattle.flush_actor.specs.Steps.{flush_due, take_completion}
+use Rattle.flush_actor.specs.Steps.{flush_due}
 use Rattle.flush_actor.specs.declared.call_kind.CallKind.{CallKind}
-use Rattle.host_machine.specs.Host.{Stepped, Turned, stop_of, with_flush, advance, commit_step, writeback, flush_step}
+use Rattle.host_machine.specs.Host.{Stepped, Turned, stop_of, advance, commit_step, writeback, flush_step, take_step}
 use Rattle.host_machine.specs.Model.{Model}
 use Rattle.host_machine.specs.State.{Ending, Down, ReadOnly, Begun, Thread, Host, Setup}
 use Rattle.host_machine.specs.laws.Contract.{Over}
@@ -85,24 +85,22 @@ module _ {A T V C R : Type 0} (o : Over A T V C R) where
     by_writeback : (full : Bool) (pick : ℕ) → SameRequests (writeback o.model o.setup full s pick).host
     by_writeback full pick = either (λ (x : Turned V C R). SameRequests x.host) (is_over s.journal.flush) _ _ (λ e. refl) (λ e. absurd (true≢false (sym over ∙ e)))
 
+    taken : (next : Option Completion) → SameRequests (take_step o.model o.setup s next).host
+    taken None = refl
+    taken (Some c) = refl
+
     by_flush : (full : Bool) (next : Option Completion) → SameRequests (flush_step o.model o.setup full s next).host
     by_flush full next = either (λ (x : Turned V C R). SameRequests x.host) (flush_due s.journal.flush) _ _ (λ due. absurd (never due)) (λ e. taken next)
       where
         never : flush_due s.journal.flush ≡ true → ⊥
         never due = true≢false (sym (and_parts (not (is_over s.journal.flush)) _ due).0 ∙ ap not over)
 
-        taken : (n : Option Completion) → SameRequests (elim n as (λ _. Turned V C R) [
-          | None ↦ record { host = s; turn = turns.Idle }
-          | Some c ↦ record { host = with_flush o.model o.setup s (take_completion c s.journal.flush); turn = turns.Did }
-        ]).host
-        taken None = refl
-        taken (Some c) = refl
-
     by_step : (e : Event) → SameRequests (stepped o s e)
     by_step (runs.Call full t) = by_caller full t
     by_step (runs.Commit full) = by_commit full
     by_step (runs.WriteBack full pick) = by_writeback full pick
     by_step (runs.FlushStep full next) = by_flush full next
+    by_step (runs.TakeStep next) = taken next
 
   -- ---- many steps
 

@@ -12,10 +12,10 @@ use Rattle.journal_ring.specs.LogRing.{ring_free}
 use Rattle.journal_ring.specs.running.Running.{log_needs}
 use Rattle.journal_ring.specs.running.Plan.{Planned}
 use Rattle.flush_actor.specs.Part.{at_limit, is_over}
-use Rattle.flush_actor.specs.Steps.{take_completion, flush_due}
+use Rattle.flush_actor.specs.Steps.{flush_due}
 use Rattle.commit_actor.specs.Journal.{Plan, Phase, Idle, Closing, Committing, is_submitted}
 use Rattle.host_machine.specs.laws.Choices.{either}
-use Rattle.host_machine.specs.Host.{Turned, with_flush, send_page, submits, build_plan, checkpoint, close_step, plan_sent, in_phase, commit_step, writeback, flush_step}
+use Rattle.host_machine.specs.Host.{Turned, send_page, submits, build_plan, checkpoint, close_step, plan_sent, in_phase, commit_step, writeback, flush_step, take_step}
 use Rattle.host_machine.specs.Model.{Model}
 use Rattle.host_machine.specs.State.{Host, Setup}
 
@@ -44,12 +44,12 @@ module _ {T V C R : Type 0} (M : Model T V C R) (u : Setup) (s : Host V C R) whe
       by None = same
       by (Some p) = submits_quiet full _ (record { history = refl; threads = refl })
 
+  pub take_quiet : (next : Option Completion) → Quiet (take_step M u s next)
+  take_quiet None = same
+  take_quiet (Some c) = record { history = refl; threads = refl }
+
   pub flush_quiet : (full : Bool) (next : Option Completion) → Quiet (flush_step M u full s next)
-  flush_quiet full next = either Quiet (flush_due s.journal.flush) _ _ (λ e. submits_quiet full _ (record { history = refl; threads = refl })) (λ e. by next)
-    where
-      by : (x : Option Completion) → Quiet (elim x as (λ _. Turned V C R) [ None ↦ record { host = s; turn = turns.Idle } | Some c ↦ record { host = with_flush M u s (take_completion c s.journal.flush); turn = turns.Did } ])
-      by None = same
-      by (Some c) = record { history = refl; threads = refl }
+  flush_quiet full next = either Quiet (flush_due s.journal.flush) _ _ (λ e. submits_quiet full _ (record { history = refl; threads = refl })) (λ e. take_quiet next)
 
   checkpoint_quiet : (homes : List Logged) → SameCalls s (checkpoint M u s homes)
   checkpoint_quiet [] = record { history = refl; threads = refl }

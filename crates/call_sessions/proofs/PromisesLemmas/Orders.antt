@@ -15,7 +15,7 @@ use Rattle.host_machine.specs.runs.Runs.{stepped, steps}
 use Rattle.call_sessions.specs.promises.Entries.{BeginsAt, NoneBetween}
 use Rattle.call_sessions.specs.promises.Legal.{reply_in, event_of, events_in, program_of}
 use Rattle.call_sessions.proofs.PromisesLemmas.CallerSteps.{CallStep, Rests, Sends, Starts, Finishes, ThreadStep, Over as NoCall, Calls, caller_step}
-use Rattle.call_sessions.proofs.PromisesLemmas.HostSteps.{commit_quiet, writeback_quiet, flush_quiet}
+use Rattle.call_sessions.proofs.PromisesLemmas.HostSteps.{commit_quiet, writeback_quiet, flush_quiet, take_quiet}
 
 -- ---- what each step of a thread keeps
 
@@ -69,6 +69,7 @@ module _ {A T V C R : Type 0} (o : Over A T V C R) (P : ℕ → Option (Thread C
     one_step (runs.Commit full) = (let q = commit_quiet o.model o.setup h full in quiet (stepped o h (runs.Commit full)) q.history q.threads)
     one_step (runs.WriteBack full pick) = (let q = writeback_quiet o.model o.setup h full pick in quiet (stepped o h (runs.WriteBack full pick)) q.history q.threads)
     one_step (runs.FlushStep full next) = (let q = flush_quiet o.model o.setup h full next in quiet (stepped o h (runs.FlushStep full next)) q.history q.threads)
+    one_step (runs.TakeStep next) = (let q = take_quiet o.model o.setup h next in quiet (stepped o h (runs.TakeStep next)) q.history q.threads)
 
   pub all_keep : (h : Host V C R) → AllKeep h → (es : List runs.Event) → AllKeep (steps o h es)
   all_keep h old [] = old

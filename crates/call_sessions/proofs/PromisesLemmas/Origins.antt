@@ -8,10 +8,10 @@ use Rattle.flush_actor.specs.Kinds.{is_begun}
 use Rattle.host_machine.specs.Host.{advance, ended_by}
 use Rattle.host_machine.specs.State.{Ending, Begins, Ends, Thread, Entry, Host}
 use Rattle.host_machine.specs.laws.Contract.{Over}
-use Rattle.host_machine.specs.runs.Runs.{Event, Call, Commit, WriteBack, FlushStep, stepped, steps}
+use Rattle.host_machine.specs.runs.Runs.{Event, Call, Commit, WriteBack, FlushStep, TakeStep, stepped, steps}
 use Rattle.call_sessions.proofs.PromisesLemmas.CallerSteps.{EndReason, Rests, Sends, Starts, Finishes, ThreadStep, Over as NoCall, Calls, caller_step}
 use Rattle.call_sessions.proofs.PromisesLemmas.Growing.{Extends, same_list, one_more, extends_on, extended_place}
-use Rattle.call_sessions.proofs.PromisesLemmas.HostSteps.{commit_quiet, writeback_quiet, flush_quiet}
+use Rattle.call_sessions.proofs.PromisesLemmas.HostSteps.{commit_quiet, writeback_quiet, flush_quiet, take_quiet}
 
 module _ {A T V C R : Type 0} (o : Over A T V C R) where
   -- thread t of the host makes this entry
@@ -31,6 +31,7 @@ module _ {A T V C R : Type 0} (o : Over A T V C R) where
   step_makes s (Commit full) = Nothing (commit_quiet o.model o.setup s full).history
   step_makes s (WriteBack full pick) = Nothing (writeback_quiet o.model o.setup s full pick).history
   step_makes s (FlushStep full next) = Nothing (flush_quiet o.model o.setup s full next).history
+  step_makes s (TakeStep next) = Nothing (take_quiet o.model o.setup s next).history
   step_makes s (Call full t) = by (caller_step o.model o.setup s full t)
     where
       by : ThreadStep o.model o.setup s full t (advance o.model o.setup full s t) → StepMakes s (Call full t)

@@ -41,9 +41,9 @@ use Rattle.host_machine.specs.laws.Contract.{Over, Contract, Tells, StandsFor, n
 use Rattle.host_machine.specs.laws.Facts.{Numbers}
 use Rattle.host_machine.specs.laws.PlanNotes.{is_plan_note, IsRestOf}
 use Rattle.host_machine.specs.laws.Reuse.{FreedWait}
-use Rattle.host_machine.specs.runs.Runs.{Event, Call, Commit, WriteBack, FlushStep, stepped}
+use Rattle.host_machine.specs.runs.Runs.{Event, Call, Commit, WriteBack, FlushStep, TakeStep, stepped}
 use Rattle.host_machine.specs.runs.laws.Kept.{IsSound}
-use Rattle.host_machine.proofs.RunsLemmas.Walks.{BegunEnds, FreshEnds, caller_walk, flush_walk}
+use Rattle.host_machine.proofs.RunsLemmas.Walks.{BegunEnds, FreshEnds, caller_walk, flush_walk, take_walk}
 use Rattle.call_sessions.specs.zone_reuse.Freeing.{IsGivenUp}
 use Rattle.call_sessions.proofs.ZoneReuseLemmas.Owners.{IsFresh, taken_long, taken_apart, taken_here}
 use Rattle.call_sessions.proofs.ZoneReuseLemmas.ZoneFacts.{ZoneFacts, reuses_told, orderless_told, freed_pushed, other_pushed, commit_pushed, entry_pushed}
@@ -344,3 +344,4 @@ module _ {A T V C R : Type 0} {o : Over A T V C R} {Stands : V → T → Type 0}
     step_zones (Commit full) = λ sound told. commit_zones full
     step_zones (WriteBack full pick) = λ sound told. writeback_zones full pick
     step_zones (FlushStep full next) = λ sound told. flush_zones full next
+    step_zones (TakeStep next) = λ sound told. take_walk o.model o.setup true s Zones zones (λ c. zones) next

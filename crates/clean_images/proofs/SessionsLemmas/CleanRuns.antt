@@ -13,7 +13,7 @@ use Rattle.crash_laws.specs.Session.{Medium}
 use Rattle.host_machine.specs.State.{Host}
 use Rattle.host_machine.specs.laws.Contract.{IsAlike, session}
 use Rattle.host_machine.specs.runs.Opened.{IsOpened}
-use Rattle.host_machine.specs.runs.Runs.{Event, Call, Commit, WriteBack, FlushStep, stepped, steps, FitsWords}
+use Rattle.host_machine.specs.runs.Runs.{Event, Call, Commit, WriteBack, FlushStep, TakeStep, stepped, steps, FitsWords}
 use Rattle.host_machine.specs.runs.laws.Kept.{IsSound as IsSoundHost}
 use Rattle.host_machine.specs.runs.laws.Written.{AreWritten}
 use Rattle.host_machine.proofs.RunsLemmas.RunHost.{opened_has, steps_keep}
@@ -34,6 +34,7 @@ module _ (s : Opening) where
   stepped_same h (Commit full) = refl
   stepped_same h (WriteBack full pick) = refl
   stepped_same h (FlushStep full next) = refl
+  stepped_same h (TakeStep next) = refl
 
   steps_same : (h : Host VolumeNow ByteCall Reply) (events : List Event) → steps (over_clean s) h events ≡ steps (over s) h events
   steps_same h [] = refl

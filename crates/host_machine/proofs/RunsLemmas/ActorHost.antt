@@ -27,7 +27,7 @@ use Rattle.host_machine.proofs.PlanSteps.{commit_keeps}
 use Rattle.host_machine.proofs.Sends.{plainly}
 use Rattle.host_machine.proofs.Steps.{first_page-In}
 use Rattle.host_machine.specs.laws.Choices.{either}
-use Rattle.host_machine.specs.Host.{Turned, submits, build_plan, checkpoint, close_step, plan_sent, in_phase, commit_step, writeback, flush_step, send_page, send_planned, committed, with_flush}
+use Rattle.host_machine.specs.Host.{Turned, submits, build_plan, checkpoint, close_step, plan_sent, in_phase, commit_step, writeback, flush_step, take_step, send_page, send_planned, committed}
 use Rattle.number_sets.specs.Sets.{has}
 use Rattle.flush_actor.specs.conflicts.Conflicts.{least}
 use Rattle.journal_ring.specs.LogRing.{ring_free}
@@ -37,7 +37,7 @@ use Rattle.host_machine.specs.State.{Begun, Thread, Host}
 use Rattle.commit_actor.specs.Journal.{Plan, Phase, Idle, Closing, Committing, is_submitted}
 use Rattle.flush_actor.specs.Kinds.{is_data}
 use Rattle.flush_actor.specs.Part.{is_flush_note, is_over, at_limit}
-use Rattle.flush_actor.specs.Steps.{flush_due, take_completion}
+use Rattle.flush_actor.specs.Steps.{flush_due}
 use Rattle.flush_actor.specs.Waits.{need_commit}
 use Rattle.flush_actor.specs.declared.call_kind.CallKind.{CallKind}
 use Rattle.flush_actor.specs.declared.call_kind.CallKind.TheVariants.{FileSync, WholeSync}
@@ -107,15 +107,15 @@ module _ {A T V C R : Type 0} {o : Over A T V C R} {Stands : V → T → Type 0}
             let here = keyed s.pages kept.images.0.rising p (In-filter (λ (p : CachedPage). is_dirty p.state) s.pages p (slice_get-In (filter (λ (p : CachedPage). is_dirty p.state) s.pages) pick p e)).0 in
             submits_rules full _ (page_out p (not (is_submitted s.journal (slice_index_or s.owners p.block 0))) false here)
 
+    pub take_step_rules : (next : Option Completion) → HasRules contract (take_step o.model o.setup s next).host
+    take_step_rules None = stays
+    take_step_rules (Some c) = (txs, N, record { rules = kept.rules; images = kept.images; ring = kept.ring }, calls, flushes)
+
     pub flush_step_rules : (full : Bool) (next : Option Completion) → HasRules contract (flush_step o.model o.setup full s next).host
     flush_step_rules full next =
         either (λ (x : Turned V C R). HasRules contract x.host) (flush_due s.journal.flush) _ _
         (λ e. submits_rules full _ (txs, N, flush_keeps contract s txs N kept, pushed (flush_request contract s txs N kept) notes.Flush calls, flush_pushed flushes s.journal.flush refl refl e))
-        (λ e. by next)
-      where
-        by : (x : Option Completion) → HasRules contract (elim x as (λ _. Turned V C R) [ None ↦ record { host = s; turn = turns.Idle } | Some c ↦ record { host = with_flush o.model o.setup s (take_completion c s.journal.flush); turn = turns.Did } ]).host
-        by None = stays
-        by (Some c) = (txs, N, record { rules = kept.rules; images = kept.images; ring = kept.ring }, calls, flushes)
+        (λ e. take_step_rules next)
 
     -- ---- the commit actor
 

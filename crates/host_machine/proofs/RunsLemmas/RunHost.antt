@@ -12,13 +12,13 @@ use Rattle.host_machine.specs.Host.{opened}
 use Rattle.journal_ring.specs.LogRing.{LogRing}
 use Rattle.host_machine.specs.State.{Host}
 use Rattle.host_machine.specs.laws.Contract.{Over, Contract, noted_history, session}
-use Rattle.host_machine.proofs.RunsLemmas.ActorHost.{writeback_rules, flush_step_rules, commit_step_rules}
+use Rattle.host_machine.proofs.RunsLemmas.ActorHost.{writeback_rules, flush_step_rules, take_step_rules, commit_step_rules}
 use Rattle.host_machine.proofs.RunsLemmas.CallerHost.{advance_rules}
 use Rattle.host_machine.proofs.RunsLemmas.Numbers.{room_stays, limits_stay, sequence_fits, first_fits, head_fits, writable}
 use Rattle.host_machine.proofs.RunsLemmas.StartHost.{ring_at_start, calls_at_start, flushes_at_start, none_begun}
 use Rattle.host_machine.proofs.RunsLemmas.Threads.{moved}
 use Rattle.host_machine.specs.runs.Opened.{IsOpened}
-use Rattle.host_machine.specs.runs.Runs.{Event, Call, Commit, WriteBack, FlushStep, stepped, steps, FitsWords, HasBlocks}
+use Rattle.host_machine.specs.runs.Runs.{Event, Call, Commit, WriteBack, FlushStep, TakeStep, stepped, steps, FitsWords, HasBlocks}
 use Rattle.host_machine.specs.runs.laws.Kept.{HasRules, IsSound}
 use Rattle.host_machine.specs.runs.laws.Traces.{trace_of}
 use Rattle.host_machine.specs.runs.laws.Written.{IsWord, AreWritten}
@@ -81,6 +81,7 @@ module _ {A T V C R : Type 0} {o : Over A T V C R} {Stands : V → T → Type 0}
             }) full
         by (WriteBack full pick) = writeback_rules contract s has.0 has.1 has.2 has.3 has.4 full pick
         by (FlushStep full next) = flush_step_rules contract s has.0 has.1 has.2 has.3 has.4 full next
+        by (TakeStep next) = take_step_rules contract s has.0 has.1 has.2 has.3 has.4 next
 
     -- the limit and the places of the log never change
     pub step_fits : (s : Host V C R) (e : Event) → IsSound contract s → FitsWords o s → FitsWords o (stepped o s e)

@@ -13,8 +13,8 @@ use Rattle.commit_actor.specs.Journal.{Plan}
 use Rattle.flush_actor.specs.Kinds.{is_begun}
 use Rattle.flush_actor.specs.Part.{at_limit}
 use Rattle.host_machine.specs.laws.Contract.{Over}
-use Rattle.host_machine.specs.runs.Runs.{Event, Call, Commit, WriteBack, FlushStep, AreBegun, stepped}
-use Rattle.host_machine.proofs.RunsLemmas.Walks.{BegunEnds, FreshEnds, caller_walk, commit_walk, writeback_walk, flush_walk}
+use Rattle.host_machine.specs.runs.Runs.{Event, Call, Commit, WriteBack, FlushStep, TakeStep, AreBegun, stepped}
+use Rattle.host_machine.proofs.RunsLemmas.Walks.{BegunEnds, FreshEnds, caller_walk, commit_walk, writeback_walk, flush_walk, take_walk}
 use Rattle.host_machine.specs.runs.laws.Traces.{trace_of, Move, Stays, Puts, Enters, Cuts, Takes}
 
 same_head : {X : Type 0} (x y : X) (xs ys : List X) → x ∷ xs ≡ y ∷ ys → x ≡ y
@@ -111,3 +111,4 @@ module _ {A T V C R : Type 0} (o : Over A T V C R) (s : Host V C R) (old : AreBe
   moved (Commit full) = commit_move o.model o.setup full s old
   moved (WriteBack full pick) = writeback_walk o.model o.setup full s IsMoved (old, Stays refl) (λ p ordered few free. (old, Puts _ _ (room o.model o.setup full s old few) refl)) pick
   moved (FlushStep full next) = flush_walk o.model o.setup full s IsMoved (old, Stays refl) (λ few free. (old, Puts _ _ (room o.model o.setup full s old few) refl)) (λ c. (old, Takes c refl)) next
+  moved (TakeStep next) = take_walk o.model o.setup true s IsMoved (old, Stays refl) (λ c. (old, Takes c refl)) next

@@ -21,7 +21,7 @@ use Rattle.flush_actor.specs.declared.wait.Wait.{Wait}
 use Rattle.commit_actor.specs.Journal.{Plan, Phase, Idle, Closing, Committing, is_submitted}
 use Rattle.host_machine.specs.Causes as causes
 use Rattle.host_machine.specs.Causes.{Cause}
-use Rattle.host_machine.specs.Host.{Stepped, Turned, Goal, AwaitCommit, AnswerOk, AwaitLastPut, unsent_on, goal_of, cause_of, with_flush, set_wait, set_thread, send_page, end_with, hindrance, hindered, plain, begin, await_durable, await_last_put, await_commit, pursue, walk_pages, continue_begun, stop_of, step_call, step_thread, advance, submits, build_plan, checkpoint, close_step, plan_sent, in_phase, commit_step, writeback, flush_step, wanting, change}
+use Rattle.host_machine.specs.Host.{Stepped, Turned, Goal, AwaitCommit, AnswerOk, AwaitLastPut, unsent_on, goal_of, cause_of, with_flush, set_wait, set_thread, send_page, end_with, hindrance, hindered, plain, begin, await_durable, await_last_put, await_commit, pursue, walk_pages, continue_begun, stop_of, step_call, step_thread, advance, submits, build_plan, checkpoint, close_step, plan_sent, in_phase, commit_step, writeback, flush_step, take_step, wanting, change}
 use Rattle.host_machine.specs.Model.{Model, Freed}
 use Rattle.host_machine.specs.Outcomes as outcomes
 use Rattle.host_machine.specs.State.{Ending, Answered, SessionFull, Begun, Thread, Host, Setup}
@@ -227,10 +227,10 @@ module _ {T V C R : Type 0} (M : Model T V C R) (u : Setup) (full : Bool) (s : H
       by None = rests
       by (Some p) = submits_walk rests _ (sends p (not (is_submitted s.journal (slice_index_or s.owners p.block 0))))
 
+  pub take_walk : P s → ((c : Completion) → P (with_flush M u s (take_completion c s.journal.flush))) → (next : Option Completion) → P (take_step M u s next).host
+  take_walk rests takes None = rests
+  take_walk rests takes (Some c) = takes c
+
   pub flush_walk : P s → (at_limit s.journal.flush ≡ false → full ≡ false → P (with_flush M u s (submit (record { id = length s.journal.flush.requests; kind = kinds.Flush; ordered = true; barrier = true }) notes.Flush s.journal.flush))) →
       ((c : Completion) → P (with_flush M u s (take_completion c s.journal.flush))) → (next : Option Completion) → P (flush_step M u full s next).host
-  flush_walk rests sends takes next = either Turns (flush_due s.journal.flush) _ _ (λ e. submits_walk rests _ sends) (λ e. by next)
-    where
-      by : (x : Option Completion) → Turns (elim x as (λ _. Turned V C R) [ None ↦ record { host = s; turn = turns.Idle } | Some c ↦ record { host = with_flush M u s (take_completion c s.journal.flush); turn = turns.Did } ])
-      by None = rests
-      by (Some c) = takes c
+  flush_walk rests sends takes next = either Turns (flush_due s.journal.flush) _ _ (λ e. submits_walk rests _ sends) (λ e. take_walk rests takes next)

@@ -2,20 +2,22 @@
 use Rattle.std.specs.Prelude.{◌≡◌, ℕ, ◌+◌, ◌<◌, ◌≤◌, Bool, true, List, [], ◌∷◌, length, slice_index, Option, Some}
 use Rattle.blk_base.specs.Members.{In}
 use Rattle.order_model.specs.declared.completion.Completion.{Completion}
-use Rattle.host_machine.specs.Host.{advance, commit_step, writeback, flush_step}
+use Rattle.host_machine.specs.Host.{advance, commit_step, writeback, flush_step, take_step}
 use Rattle.host_machine.specs.State.{Begun, Thread, Host}
 use Rattle.flush_actor.specs.Kinds.{is_begun}
 use Rattle.flush_actor.specs.declared.call_kind.CallKind.{CallKind}
 use Rattle.host_machine.specs.Views.{waits_for}
 use Rattle.host_machine.specs.laws.Contract.{Over}
 
--- A step of the host: of this thread's call, of the commit actor, of the write-back with this pick, or of the flush actor
--- with the next completion, if there is one. The Bool says that the submission queue is full.
+-- A step of the host: of this thread's call, of the commit actor, of the write-back with this pick, of the flush actor
+-- with the next completion, if there is one, or that completion alone, though a flush may be due. The Bool says that the
+-- submission queue is full.
 pub data Event : Type 0 where
   Call : Bool → ℕ → Event
   Commit : Bool → Event
   WriteBack : Bool → ℕ → Event
   FlushStep : Bool → Option Completion → Event
+  TakeStep : Option Completion → Event
 
 -- a block of 1,024 bytes
 abbrev pub IsBlock : List ℕ → Type 0
@@ -31,6 +33,7 @@ module _ {A T V C R : Type 0} (o : Over A T V C R) where
   stepped s (Commit full) = (commit_step o.model o.setup full s).host
   stepped s (WriteBack full pick) = (writeback o.model o.setup full s pick).host
   stepped s (FlushStep full next) = (flush_step o.model o.setup full s next).host
+  stepped s (TakeStep next) = (take_step o.model o.setup s next).host
 
   abbrev pub steps : Host V C R → List Event → Host V C R
   steps s [] = s

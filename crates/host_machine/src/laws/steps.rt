@@ -3,7 +3,7 @@ ghost use Rattle.std.specs.Prelude.{◌≡◌, ℕ, Bool, true, List, ◌∷◌,
 ghost use Rattle.order_model.specs.declared.completion.Completion.{Completion};
 ghost use Rattle.log_model.specs.Marks.{Transaction};
 ghost use Rattle.crash_laws.specs.Rules.{CommitOrder};
-ghost use Rattle.host_machine.specs.Host.{advance, commit_step, writeback, flush_step};
+ghost use Rattle.host_machine.specs.Host.{advance, commit_step, writeback, flush_step, take_step};
 ghost use Rattle.host_machine.specs.State.{Begun, Thread, Host};
 ghost use Rattle.flush_actor.specs.Kinds.{is_begun};
 ghost use Rattle.host_machine.specs.laws.Contract.{Over, Contract, StandsAs, KeepsImages, session};
@@ -30,4 +30,7 @@ pub fn actors_keep_the_images<A, T, V, C, R>()
     ensures flush { (o : Over A T V C R) (tree : V → Option T) (contract : Contract o (StandsAs tree)) (txs : List Transaction) (N : ℕ) (s : Host V C R) (full : Bool) (next : Option Completion) →
         KeepsImages o (StandsAs tree) s txs N →
         (more : List Transaction) × (n : ℕ) × KeepsImages o (StandsAs tree) (flush_step o.model o.setup full s next).host more n }
+    ensures take { (o : Over A T V C R) (tree : V → Option T) (contract : Contract o (StandsAs tree)) (txs : List Transaction) (N : ℕ) (s : Host V C R) (next : Option Completion) →
+        KeepsImages o (StandsAs tree) s txs N →
+        (more : List Transaction) × (n : ℕ) × KeepsImages o (StandsAs tree) (take_step o.model o.setup s next).host more n }
 {}

@@ -23,7 +23,7 @@ use Rattle.flush_actor.specs.Steps.{is_due, is_due_in, flush_due}
 use Rattle.flush_actor.specs.declared.wait.Wait.{Wait}
 use Rattle.journal_ring.specs.LogRing.{ring_free}
 use Rattle.journal_ring.specs.running.Running.{log_needs}
-use Rattle.host_machine.specs.Host.{Turned, submits, build_plan, checkpoint, close_step, in_phase, commit_step, writeback, flush_step}
+use Rattle.host_machine.specs.Host.{Turned, submits, build_plan, checkpoint, close_step, in_phase, commit_step, writeback, flush_step, take_step}
 use Rattle.host_machine.specs.Model.{Model}
 use Rattle.host_machine.specs.State.{Host, Setup}
 use Rattle.host_tests.specs.machine.Asking.{GoesOn, HasRoom, HasNoRoom, HasStopped, IsOut, IsNotOut, NoFlushBehind, with_request}
@@ -198,6 +198,15 @@ module _ {T V C R : Type 0} (m : Model T V C R) (u : Setup) where
 
     pub nothing_due : flush_step m u full s None ≡ record { host = s; turn = turns.Idle }
     nothing_due = rw (flush_step, off) refl
+
+  -- ---- a completion by itself
+
+  pub took : (s : Host V C R) (c : Completion) → (take_step m u s (Some c)).host.journal.flush.taken ≡ s.journal.flush.taken ++ c ∷ []
+  took s c = refl
+
+  pub unsent : (s : Host V C R) (next : Option Completion) → (take_step m u s next).host.journal.flush.requests ≡ s.journal.flush.requests
+  unsent s None = refl
+  unsent s (Some c) = refl
 
   -- ---- the write-back
 

@@ -12,7 +12,7 @@ ghost use Rattle.page_cache.specs.declared.cached_page.PageState.TheVariants.{Lo
 ghost use Rattle.log_model.specs.Marks.{Logged};
 ghost use Rattle.commit_actor.specs.Journal.{Idle, Closing};
 ghost use Rattle.flush_actor.specs.declared.wait.Wait.{Wait};
-ghost use Rattle.host_machine.specs.Host.{commit_step, writeback, flush_step};
+ghost use Rattle.host_machine.specs.Host.{commit_step, writeback, flush_step, take_step};
 ghost use Rattle.host_machine.specs.Model.{Model};
 ghost use Rattle.host_machine.specs.State.{Host, Setup};
 ghost use Rattle.host_tests.specs.machine.Asking.{GoesOn, HasRoom, HasNoRoom, HasStopped, IsOut, IsNotOut, NoFlushBehind, with_request};
@@ -87,6 +87,14 @@ pub fn due_flushes_go_before_completions<T, V, C, R>()
         ((flush_step m u full s (Some c)).host.journal.flush.taken ≡ s.journal.flush.taken ++ c ∷ []) × ((flush_step m u full s (Some c)).host.journal.flush.requests ≡ s.journal.flush.requests) }
     ensures none { (m : Model T V C R) (u : Setup) (full : Bool) (s : Host V C R) → ((w : Wait) → In w s.journal.flush.waits → w.need ≡ None) →
         flush_step m u full s None ≡ record { host = s; turn = turns.Idle } }
+{}
+
+/// A law, which does nothing when it is called: a completion can be taken by itself, whatever is due. Nothing is submitted
+/// then.
+pub fn completions_can_be_taken_whatever_is_due<T, V, C, R>()
+    ensures taken { (m : Model T V C R) (u : Setup) (s : Host V C R) (c : Completion) → (take_step m u s (Some c)).host.journal.flush.taken ≡ s.journal.flush.taken ++ c ∷ [] }
+    ensures submitted { (m : Model T V C R) (u : Setup) (s : Host V C R) (next : Option Completion) → (take_step m u s next).host.journal.flush.requests ≡ s.journal.flush.requests }
+    ensures none { (m : Model T V C R) (u : Setup) (s : Host V C R) → take_step m u s None ≡ record { host = s; turn = turns.Idle } }
 {}
 
 /// A law, which does nothing when it is called: a page that the write-back sends goes without order, and is Loose, exactly

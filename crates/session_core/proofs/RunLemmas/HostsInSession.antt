@@ -12,7 +12,7 @@ use Rattle.journal_ring.specs.running.Open.{quota}
 use Rattle.journal_ring.specs.running.Plan.{Writers}
 use Rattle.volume_steps.specs.Now.{VolumeNow}
 use Rattle.host_core.specs.Now.{HostNow, with_host, host_made, model_now, setup_now}
-use Rattle.host_machine.specs.Host.{advance, commit_step, writeback, flush_step, opened}
+use Rattle.host_machine.specs.Host.{advance, commit_step, writeback, flush_step, take_step, opened}
 use Rattle.host_machine.specs.Model.{Model}
 use Rattle.host_machine.specs.State.{Host, Setup}
 use Rattle.host_machine.specs.runs.Runs.{Event, stepped, steps}
@@ -87,6 +87,9 @@ module _ (s : Opening) (v : VolumeNow) (ring : LogRing) (limit : ℕ) (programs 
 
   pub flush_goes_on : (full : Bool) (next : Option Completion) (new : HostNow) → new ≡ with_host h (flush_step (model_now h) (setup_now h) full h.host next).host → IsInSession s v ring limit programs (events ++ runs.FlushStep full next ∷ []) new
   flush_goes_on full next new did = goes_on (λ m u x. (flush_step m u full x next).host) (runs.FlushStep full next) (λ x. refl) new did
+
+  pub take_goes_on : (next : Option Completion) (new : HostNow) → new ≡ with_host h (take_step (model_now h) (setup_now h) h.host next).host → IsInSession s v ring limit programs (events ++ runs.TakeStep next ∷ []) new
+  take_goes_on next new did = goes_on (λ m u x. (take_step m u x next).host) (runs.TakeStep next) (λ x. refl) new did
 
   pub host_keeps : KeepsCalls s h.host
   host_keeps = subst (KeepsCalls s) (sym inside.host) (calls_kept s v ring limit programs written o j bytes events)

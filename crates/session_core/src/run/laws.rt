@@ -51,6 +51,9 @@ pub fn hosts_of_code_stay_in_session()
     ensures flush { (s : Opening) (v : VolumeNow) (ring : LogRing) (limit : ℕ) (programs : List (List Call)) (events : List Event) (h new : HostNow) (full : Bool) (next : Option Completion) →
         AreWritten s.format s.writers → IsOpenedVolume s v → HasEmptyJournal s ring limit → WriteBytes programs → IsInSession s v ring limit programs events h →
         new ≡ with_host h (machine.flush_step (model_now h) (setup_now h) full h.host next).host → IsInSession s v ring limit programs (events ++ runs.FlushStep full next ∷ []) new }
+    ensures take { (s : Opening) (v : VolumeNow) (ring : LogRing) (limit : ℕ) (programs : List (List Call)) (events : List Event) (h new : HostNow) (next : Option Completion) →
+        AreWritten s.format s.writers → IsOpenedVolume s v → HasEmptyJournal s ring limit → WriteBytes programs → IsInSession s v ring limit programs events h →
+        new ≡ with_host h (machine.take_step (model_now h) (setup_now h) h.host next).host → IsInSession s v ring limit programs (events ++ runs.TakeStep next ∷ []) new }
     ensures kept { (s : Opening) (v : VolumeNow) (ring : LogRing) (limit : ℕ) (programs : List (List Call)) (events : List Event) (h : HostNow) →
         AreWritten s.format s.writers → IsOpenedVolume s v → HasEmptyJournal s ring limit → WriteBytes programs → IsInSession s v ring limit programs events h →
         KeepsCalls s h.host }

@@ -21,8 +21,8 @@ use Rattle.host_machine.specs.laws.Contract.{Over}
 use Rattle.journal_ring.specs.LogRing.{put_home, put_homes}
 use Rattle.journal_ring.specs.running.Plan.{Writers, Planned}
 use Rattle.commit_actor.specs.Journal.{Plan, Phase, Idle, Closing, Committing}
-use Rattle.host_machine.specs.runs.Runs.{Event, Call, Commit, WriteBack, FlushStep, stepped}
-use Rattle.host_machine.proofs.RunsLemmas.Walks.{BegunEnds, FreshEnds, caller_walk, commit_walk, writeback_walk, flush_walk}
+use Rattle.host_machine.specs.runs.Runs.{Event, Call, Commit, WriteBack, FlushStep, TakeStep, stepped}
+use Rattle.host_machine.proofs.RunsLemmas.Walks.{BegunEnds, FreshEnds, caller_walk, commit_walk, writeback_walk, flush_walk, take_walk}
 use Rattle.host_machine.specs.runs.laws.Written.{IsWord, AreWritten}
 use Rattle.call_sessions.specs.power_cuts.images.Requests.{IsLoggable, IsReadable}
 use Rattle.call_sessions.proofs.PowerCutsLemmas.ImagesLemmas.Requests.{AreReadable, plan_readable}
@@ -228,3 +228,4 @@ module _ {A T V C R : Type 0} (o : Over A T V C R) (s : Host V C R) where
       step_readable touches (Commit full) = commit_readable full
       step_readable touches (WriteBack full pick) = writeback_walk M u full s Good stays (λ p ordered few free. pushed stays _ _ tt) pick
       step_readable touches (FlushStep full next) = flush_walk M u full s Good stays (λ few free. pushed stays _ _ tt) (λ c. stays) next
+      step_readable touches (TakeStep next) = take_walk M u true s Good stays (λ c. stays) next

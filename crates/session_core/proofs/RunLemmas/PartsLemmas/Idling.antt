@@ -5,7 +5,7 @@ use Rattle.order_model.specs.declared.completion.Completion.{Completion}
 use Rattle.order_model.specs.declared.turn.Turn.TheVariants as turns
 use Rattle.page_cache.specs.Pages.{is_unsent, is_dirty}
 use Rattle.page_cache.specs.declared.cached_page.CachedPage.{CachedPage}
-use Rattle.host_machine.specs.Host.{Turned, with_flush, send_page, submits, build_plan, checkpoint, close_step, plan_sent, in_phase, commit_step, writeback, flush_step}
+use Rattle.host_machine.specs.Host.{Turned, send_page, submits, build_plan, checkpoint, close_step, plan_sent, in_phase, commit_step, writeback, flush_step, take_step}
 use Rattle.host_machine.specs.Model.{Model}
 use Rattle.number_sets.specs.Sets.{has}
 use Rattle.journal_ring.specs.LogRing.{ring_free}
@@ -14,7 +14,7 @@ use Rattle.journal_ring.specs.running.Plan.{Planned}
 use Rattle.host_machine.specs.State.{Host, Setup}
 use Rattle.commit_actor.specs.Journal.{Phase, Idle, Closing, Committing, is_submitted}
 use Rattle.flush_actor.specs.Part.{at_limit, is_over}
-use Rattle.flush_actor.specs.Steps.{flush_due, take_completion}
+use Rattle.flush_actor.specs.Steps.{flush_due}
 
 -- by one test
 pub test : {X : Type 0} (P : X → Type 0) (b : Bool) (x y : X) → P x → P y → P (if b then x else y)
@@ -44,18 +44,12 @@ module _ {T V C R : Type 0} (M : Model T V C R) (u : Setup) (full : Bool) (s : H
       by None = λ apart. refl
       by (Some p) = submits_leaves _
 
-  pub flush_leaves : (next : Option Completion) → Leaves (flush_step M u full s next)
-  flush_leaves next = test Leaves (flush_due s.journal.flush) _ _ (submits_leaves _) (by next)
-    where
-      goes : Option Completion → Turned V C R
-      goes x = elim x as (λ _. Turned V C R) [
-        | None ↦ record { host = s; turn = turns.Idle }
-        | Some c ↦ record { host = with_flush M u s (take_completion c s.journal.flush); turn = turns.Did }
-      ]
+  pub take_leaves : (next : Option Completion) → Leaves (take_step M u s next)
+  take_leaves None = λ apart. refl
+  take_leaves (Some c) = did _
 
-      by : (x : Option Completion) → Leaves (goes x)
-      by None = λ apart. refl
-      by (Some c) = did _
+  pub flush_leaves : (next : Option Completion) → Leaves (flush_step M u full s next)
+  flush_leaves next = test Leaves (flush_due s.journal.flush) _ _ (submits_leaves _) (take_leaves next)
 
   close_leaves : Leaves (close_step M u full s)
   close_leaves = by (find (λ p. is_unsent p.state && has s.journal.running.changed p.birth) s.pages)

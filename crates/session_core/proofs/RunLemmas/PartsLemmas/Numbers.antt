@@ -66,6 +66,8 @@ module _ (s : Opening) (limit : ℕ) where
   step_few h (runs.Commit full) there v = sent_few s.image limit full h.journal.flush (stepped (call_over s) h (runs.Commit full)).journal.flush (commit_sends (call_over s).model (call_over s).setup full h) there v
   step_few h (runs.WriteBack full pick) there v = sent_few s.image limit full h.journal.flush (stepped (call_over s) h (runs.WriteBack full pick)).journal.flush (writeback_sends (call_over s).model (call_over s).setup full h pick) there v
   step_few h (runs.FlushStep full next) there v = flush_few full h next there v
+  step_few h (runs.TakeStep None) there v = v
+  step_few h (runs.TakeStep (Some c)) there v = record { limit_is = v.limit_is; queues = v.queues; fit = v.fit }
 
   module _ (v : VolumeNow) (ring : LogRing) (programs : List (List Call)) (written : AreWritten s.format s.writers) (o : IsOpenedVolume s v) (j : HasEmptyJournal s ring limit) (bytes : WriteBytes programs) (blocks : s.geometry.zones + ring.places.past ≤ length s.image) where
     abbrev first : Now

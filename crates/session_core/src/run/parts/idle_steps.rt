@@ -20,4 +20,5 @@ pub fn idle_turns_leave_the_host<T, V, C, R>()
     ensures commit { (m : Model T V C R) (u : Setup) (full : Bool) (h : Host V C R) → (machine.commit_step m u full h).turn ≢ turns.Did → (machine.commit_step m u full h).host ≡ h }
     ensures writeback { (m : Model T V C R) (u : Setup) (full : Bool) (h : Host V C R) (pick : ℕ) → (machine.writeback m u full h pick).turn ≢ turns.Did → (machine.writeback m u full h pick).host ≡ h }
     ensures flush { (m : Model T V C R) (u : Setup) (full : Bool) (h : Host V C R) (next : Option Completion) → (machine.flush_step m u full h next).turn ≢ turns.Did → (machine.flush_step m u full h next).host ≡ h }
+    ensures take { (m : Model T V C R) (u : Setup) (h : Host V C R) (next : Option Completion) → (machine.take_step m u h next).turn ≢ turns.Did → (machine.take_step m u h next).host ≡ h }
 {}

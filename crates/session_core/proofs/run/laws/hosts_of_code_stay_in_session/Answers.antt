@@ -1,4 +1,4 @@
-use Rattle.session_core.proofs.RunLemmas.HostsInSession.{made_in_session, model_is, setup_is, call_goes_on, commit_goes_on, writeback_goes_on, flush_goes_on, host_keeps}
+use Rattle.session_core.proofs.RunLemmas.HostsInSession.{made_in_session, model_is, setup_is, call_goes_on, commit_goes_on, writeback_goes_on, flush_goes_on, take_goes_on, host_keeps}
 use Rattle.session_core.proofs.run.laws.hosts_of_code_stay_in_session.Goals as goal
 
 pub returns : goal.returns
@@ -14,5 +14,7 @@ returns c = record {
       writeback_goes_on s v ring limit programs written opened journal bytes events h inside full pick new did;
   flush = λ s v ring limit programs events h new full next written opened journal bytes inside did.
       flush_goes_on s v ring limit programs written opened journal bytes events h inside full next new did;
+  take = λ s v ring limit programs events h new next written opened journal bytes inside did.
+      take_goes_on s v ring limit programs written opened journal bytes events h inside next new did;
   kept = λ s v ring limit programs events h written opened journal bytes inside. host_keeps s v ring limit programs written opened journal bytes events h inside;
 }
