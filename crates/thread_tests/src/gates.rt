@@ -1,6 +1,6 @@
 //! Gates of the tests.
 use session_threads::sides::Gate;
-use std::sync::atomic::{AtomicBool, Ordering};
+use std::sync::atomic::{AtomicBool, AtomicU32, Ordering};
 use std::thread;
 
 /// Lets every worker pass.
@@ -61,5 +61,33 @@ impl Gate for Meeting {
                 .store(goes_up(&self.caller), Ordering::SeqCst);
         }
         true
+    }
+}
+
+/// Lets the flush loop pass once in two thousand passes of the others, so that all that can happen without it has happened.
+#[derive(Drop)]
+pub struct Late {
+    passes: AtomicU32,
+}
+
+impl Late {
+    pub fn new() -> Late {
+        Late {
+            passes: AtomicU32::new(0),
+        }
+    }
+}
+
+impl Gate for Late {
+    fn pass(&self, who: u32, _turn: u64) -> bool {
+        if who != 102 {
+            self.passes.fetch_add(1, Ordering::SeqCst);
+            return true;
+        }
+        let passes = self.passes.load(Ordering::SeqCst) >= 2_000;
+        if passes {
+            self.passes.store(0, Ordering::SeqCst);
+        }
+        passes
     }
 }

@@ -1,5 +1,5 @@
 //! Sessions of scripts in threads.
-use crate::gates::{Meeting, Open};
+use crate::gates::{Late, Meeting, Open};
 use blk_base::NoMemory;
 use host_answers::{Entry, EntryKind};
 use script_grammar::MOST_SCRIPT_BYTES;
@@ -193,4 +193,31 @@ fn workers_run_at_once(rt: HostRuntime) {
     let (told, _) = run(&rt, alloc, &script, &gate);
     assert!(rt; gate.have_met());
     assert_eq!(rt; (told.ok, told.others, told.lost, told.kept), (20, 0, 0, 4));
+}
+
+// One thread syncs a file. Another writes over a block of its own again and again, and bars each write from the next, for which
+// it waits for nobody: so the queues, which hold one item, are full when the power goes.
+fn crowded_script(alloc: Global, cut: u32) -> Result<String, NoMemory> {
+    let mut text = format!(in alloc;
+        "volume inodes 32 zones 64 journal 128\nqueue 1\ndepth 1\ncut {cut}\n"
+    )?;
+    text.push_str("thread 1\ncreate /a\nwrite /a 0 1000 61\nfsync /a\nthread 2\ncreate /b\n")?;
+    for _ in 0..20 {
+        text.push_str("write /b 0 1000 62\nfdatabarrier /b\n")?;
+    }
+    text.push_str("events\n")?;
+    Ok(text)
+}
+
+// Nothing leaves the submission queue behind the cut, and the flush that the sync call wants finds no room there. Both threads
+// hear of the cut all the same.
+#[test]
+fn power_cuts_are_heard_of_behind_a_full_queue(rt: HostRuntime) {
+    let alloc = rt.alloc();
+    for cut in 1..31 {
+        let script = crowded_script(alloc, cut).expect(&rt, "no memory");
+        let (told, tree) = run(&rt, alloc, &script, &Late::new());
+        drop(tree);
+        assert_eq!(rt; told.ok.wrapping_add(told.others), 44, "cut {cut}");
+    }
 }

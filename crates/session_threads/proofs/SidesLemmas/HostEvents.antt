@@ -20,7 +20,7 @@ behind (noted.Commit ∷ xs) ys cs = ap (λ l. runs.Commit false ∷ l) (behind 
 behind (noted.Writeback pick ∷ xs) ys cs = ap (λ l. runs.WriteBack false pick ∷ l) (behind xs ys cs)
 behind (noted.Flush ∷ xs) ys cs = ap (λ l. runs.FlushStep false None ∷ l) (behind xs ys cs)
 behind (noted.Take ∷ xs) ys [] = behind xs ys [] ∙ ap (λ l. with_completions xs [] ++ with_completions ys l) (none_left (takes xs))
-behind (noted.Take ∷ xs) ys (c ∷ cs) = ap (λ l. runs.FlushStep false (Some c) ∷ l) (behind xs ys cs)
+behind (noted.Take ∷ xs) ys (c ∷ cs) = ap (λ l. runs.TakeStep (Some c) ∷ l) (behind xs ys cs)
 
 -- events do not see what they leave
 pub front : (xs : List HostEvent) (cs more : List Completion) → takes xs ≤ length cs → with_completions xs (cs ++ more) ≡ with_completions xs cs
@@ -30,7 +30,7 @@ front (noted.Commit ∷ xs) cs more le = ap (λ l. runs.Commit false ∷ l) (fro
 front (noted.Writeback pick ∷ xs) cs more le = ap (λ l. runs.WriteBack false pick ∷ l) (front xs cs more le)
 front (noted.Flush ∷ xs) cs more le = ap (λ l. runs.FlushStep false None ∷ l) (front xs cs more le)
 front (noted.Take ∷ xs) [] more le = absurd (omega (arith, le))
-front (noted.Take ∷ xs) (c ∷ cs) more le = ap (λ l. runs.FlushStep false (Some c) ∷ l) (front xs cs more (omega (arith, le)))
+front (noted.Take ∷ xs) (c ∷ cs) more le = ap (λ l. runs.TakeStep (Some c) ∷ l) (front xs cs more (omega (arith, le)))
 
 takes_append : (xs ys : List HostEvent) → takes (xs ++ ys) ≡ takes xs + takes ys
 takes_append [] ys = omega arith
@@ -48,7 +48,7 @@ pub same_takes : (xs : List HostEvent) (x : HostEvent) → takes (x ∷ []) ≡ 
 same_takes xs x none = let n = takes_append xs (x ∷ []) in omega (arith, n, none)
 
 -- one that takes the next completion
-pub more_taken : (xs : List HostEvent) (cs : List Completion) (c : Completion) → takes xs ≡ length cs → with_completions (xs ++ noted.Take ∷ []) (cs ++ c ∷ []) ≡ with_completions xs cs ++ runs.FlushStep false (Some c) ∷ []
+pub more_taken : (xs : List HostEvent) (cs : List Completion) (c : Completion) → takes xs ≡ length cs → with_completions (xs ++ noted.Take ∷ []) (cs ++ c ∷ []) ≡ with_completions xs cs ++ runs.TakeStep (Some c) ∷ []
 more_taken xs cs c count =
     behind xs (noted.Take ∷ []) (cs ++ c ∷ [])
     ∙ ap (λ l. l ++ with_completions (noted.Take ∷ []) (drop (takes xs) (cs ++ c ∷ []))) (front xs cs (c ∷ []) (omega (arith, count)))

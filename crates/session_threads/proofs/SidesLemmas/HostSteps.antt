@@ -11,7 +11,7 @@ use Rattle.flush_actor.specs.Outcomes.{is_queue_full, is_did, sent_between, firs
 use Rattle.flush_actor.specs.Steps.{flush_due, take_completion}
 use Rattle.host_answers.specs.declared.step.Step.{Step}
 use Rattle.host_answers.specs.declared.step.Step.TheVariants as answers
-use Rattle.host_machine.specs.Host.{Stepped, Turned, with_flush, advance, commit_step, writeback, flush_step}
+use Rattle.host_machine.specs.Host.{Stepped, Turned, with_flush, advance, commit_step, writeback, flush_step, take_step}
 use Rattle.host_machine.specs.State.{Host}
 use Rattle.host_core.specs.Answers.{IfStepped, found_queue_full}
 use Rattle.host_core.specs.Now.{HostNow, with_host, model_now, setup_now}
@@ -29,10 +29,10 @@ use Rattle.session_core.proofs.RunLemmas.MachineLemmas.HostFits.{one_sent}
 use Rattle.session_core.proofs.RunLemmas.MachineLemmas.Sending.{Sends, Keeps, Puts, advance_sends, commit_sends, writeback_sends, flush_sends, flush_takes}
 use Rattle.session_core.specs.run.CodeHosts.{IsInSession}
 use Rattle.session_core.proofs.RunLemmas.Answered.{stepped_host}
-use Rattle.session_core.proofs.RunLemmas.HostsInSession.{call_goes_on, commit_goes_on, writeback_goes_on, flush_goes_on}
+use Rattle.session_core.proofs.RunLemmas.HostsInSession.{call_goes_on, commit_goes_on, writeback_goes_on, flush_goes_on, take_goes_on}
 use Rattle.session_core.specs.run.parts.Still.{is_still, AreSame}
 use Rattle.session_core.proofs.RunLemmas.PartsLemmas.Waiting.{advance_leaves}
-use Rattle.session_core.proofs.RunLemmas.PartsLemmas.Idling.{commit_leaves, writeback_leaves, flush_leaves}
+use Rattle.session_core.proofs.RunLemmas.PartsLemmas.Idling.{commit_leaves, writeback_leaves, flush_leaves, take_leaves}
 use Rattle.session_threads.specs.sides.Noting.{is_still_answer}
 use Rattle.session_threads.specs.declared.sides.beside.events.HostEvent.{HostEvent}
 use Rattle.session_threads.specs.declared.sides.beside.events.HostEvent.TheVariants as noted
@@ -100,6 +100,27 @@ module _ (s : Opening) (b : Start) (old : HostSideNow) (is : IsHostReplay s b ol
   stays new events sent taken same same_events sent_is same_taken =
       let none = sent_is ∙ ap (λ (x : HostNow). old.sent ++ sent_between f x.host.journal.flush) same ∙ ap (λ l. old.sent ++ l) (nothing_between f) ∙ append-nil old.sent in
       subst (λ (x : HostSideNow). IsHostReplay s b x) (λ i. record { host = sym same i; events = sym same_events i; sent = sym none i; taken = sym same_taken i }) is
+
+  -- a step that took the next completion and did no more
+  one_taken : (c : Completion) (new : HostNow) (events : List HostEvent) (sent : List Request) (taken : List Completion) → new ≡ with_host h new.host → new.host ≡ with_flush (model_now h) (setup_now h) h.host (take_completion c f)
+      → sent ≡ old.sent ++ sent_between f new.host.journal.flush → taken ≡ old.taken ++ drop (length f.taken) new.host.journal.flush.taken → events ≡ old.events ++ noted.Take ∷ []
+      → IsHostReplay s b (record { host = new; events = events; sent = sent; taken = taken })
+  one_taken c new events sent taken same at sent_is taken_is events_are =
+      let list : new.host.journal.flush.taken ≡ f.taken ++ c ∷ [] = ap (λ (x : Host VolumeNow Call Reply). x.journal.flush.taken) at in
+      let one = taken_is ∙ ap (λ l. old.taken ++ drop (length f.taken) l) list ∙ ap (λ l. old.taken ++ l) (drop_at f.taken (c ∷ []) (length f.taken) refl) in
+      subst (λ l. IsHostReplay s b (record { host = new; events = events; sent = sent; taken = l })) (sym one) (record {
+        written = is.written;
+        opened = is.opened;
+        journal = is.journal;
+        bytes = is.bytes;
+        replay = subst (λ l. InSession l new) (sym (ap (λ l. with_completions l (old.taken ++ c ∷ [])) events_are ∙ more_taken old.events old.taken c is.counted))
+            (take_goes_on s b.volume b.ring b.limit b.programs is.written is.opened is.journal is.bytes (with_completions old.events old.taken) h is.replay (Some c) new (same ∙ ap (with_host h) at));
+        counted = ap takes events_are ∙ one_take old.events ∙ (let n = is.counted in let m = length-append old.taken (c ∷ []) in omega (arith, n, m));
+        sent =
+            sent_is ∙ ap (λ (x : Host VolumeNow Call Reply). old.sent ++ drop (length f.requests) x.journal.flush.requests) at ∙ ap (λ l. old.sent ++ l) (nothing_between f) ∙ append-nil old.sent ∙ is.sent
+            ∙ sym (ap (λ (x : Host VolumeNow Call Reply). x.journal.flush.requests) at);
+        taken = ap (λ l. l ++ c ∷ []) is.taken ∙ sym list;
+      })
 
   -- a flush actor that has nothing to take does nothing
   idles : flush_due f ≡ false → flush_step (model_now h) (setup_now h) false h.host None ≡ record { host = h.host; turn = turns.Idle }
@@ -233,21 +254,34 @@ module _ (s : Opening) (b : Start) (old : HostSideNow) (is : IsHostReplay s b ol
           by false None due e = absurd (idles_not turn new.host e due did)
           by false (Some c) due e =
               let at : new.host ≡ with_flush (model_now h) (setup_now h) h.host (take_completion c f) = ap (λ (y : Turned VolumeNow Call Reply). y.host) e ∙ flush_takes (model_now h) (setup_now h) false h.host c due in
-              let list : new.host.journal.flush.taken ≡ f.taken ++ c ∷ [] = ap (λ (x : Host VolumeNow Call Reply). x.journal.flush.taken) at in
-              let one = taken_is ∙ ap (λ l. old.taken ++ drop (length f.taken) l) list ∙ ap (λ l. old.taken ++ l) (drop_at f.taken (c ∷ []) (length f.taken) refl) in
-              subst (λ l. IsHostReplay s b (record { host = new; events = events; sent = sent; taken = l })) (sym one) (record {
-                written = is.written;
-                opened = is.opened;
-                journal = is.journal;
-                bytes = is.bytes;
-                replay = subst (λ l. InSession l new) (sym (ap (λ l. with_completions l (old.taken ++ c ∷ [])) events_are ∙ more_taken old.events old.taken c is.counted))
-                    (flush_goes_on s b.volume b.ring b.limit b.programs is.written is.opened is.journal is.bytes (with_completions old.events old.taken) h is.replay false (Some c) new (same ∙ ap (with_host h) (ap (λ (y : Turned VolumeNow Call Reply). y.host) e)));
-                counted = ap takes events_are ∙ one_take old.events ∙ (let n = is.counted in let m = length-append old.taken (c ∷ []) in omega (arith, n, m));
-                sent =
-                    sent_is ∙ ap (λ (x : Host VolumeNow Call Reply). old.sent ++ drop (length f.requests) x.journal.flush.requests) at ∙ ap (λ l. old.sent ++ l) (nothing_between f) ∙ append-nil old.sent ∙ is.sent
-                    ∙ sym (ap (λ (x : Host VolumeNow Call Reply). x.journal.flush.requests) at);
-                taken = ap (λ l. l ++ c ∷ []) is.taken ∙ sym list;
-              })
+              one_taken c new events sent taken same at sent_is taken_is events_are
+
+  -- ---- a completion alone
+
+  module _ (new : HostNow) (turn : Turn) (same : new ≡ with_host h new.host) (taken : List Completion) (step : record { host = new.host; turn = turn } ≡ take_step (model_now h) (setup_now h) h.host (first_since old.taken taken)) (taken_is : taken ≡ old.taken ++ drop (length f.taken) new.host.journal.flush.taken) where
+    unsent : (x : Option Completion) → old.sent ≡ old.sent ++ sent_between f (take_step (model_now h) (setup_now h) h.host x).host.journal.flush
+    unsent None = sym (ap (λ l. old.sent ++ l) (nothing_between f) ∙ append-nil old.sent)
+    unsent (Some c) = sym (ap (λ l. old.sent ++ l) (nothing_between f) ∙ append-nil old.sent)
+
+    sent_is : old.sent ≡ old.sent ++ sent_between f new.host.journal.flush
+    sent_is = unsent (first_since old.taken taken) ∙ sym (ap (λ (x : Turned VolumeNow Call Reply). old.sent ++ sent_between f x.host.journal.flush) step)
+
+    pub take_still : (events : List HostEvent) → turn ≢ turns.Did → events ≡ old.events → IsHostReplay s b (record { host = new; events = events; sent = old.sent; taken = taken })
+    take_still events apart same_events =
+        let left = same ∙ ap (with_host h) (ap (λ (x : Turned VolumeNow Call Reply). x.host) step ∙ take_leaves (model_now h) (setup_now h) true h.host (first_since old.taken taken) (λ e. apart (ap (λ (x : Turned VolumeNow Call Reply). x.turn) step ∙ e))) in
+        stays new events old.sent taken left same_events sent_is
+        (taken_is ∙ ap (λ (x : HostNow). old.taken ++ drop (length f.taken) x.host.journal.flush.taken) left
+        ∙ ap (λ l. old.taken ++ l) (ap (drop (length f.taken)) (sym (append-nil f.taken)) ∙ drop_at f.taken [] (length f.taken) refl) ∙ append-nil old.taken)
+
+    not_idle : turn ≡ turns.Did → record { host = new.host; turn = turn } ≡ take_step (model_now h) (setup_now h) h.host None → ⊥
+    not_idle did e = let never : ◌≡◌ {A = Turn} turns.Did turns.Idle = sym did ∙ ap (λ (y : Turned VolumeNow Call Reply). y.turn) e in cc never
+
+    pub took_noted : (events : List HostEvent) → turn ≡ turns.Did → events ≡ old.events ++ noted.Take ∷ [] → IsHostReplay s b (record { host = new; events = events; sent = old.sent; taken = taken })
+    took_noted events did events_are = by (first_since old.taken taken) step
+      where
+        by : (x : Option Completion) → record { host = new.host; turn = turn } ≡ take_step (model_now h) (setup_now h) h.host x → IsHostReplay s b (record { host = new; events = events; sent = old.sent; taken = taken })
+        by None e = absurd (not_idle did e)
+        by (Some c) e = one_taken c new events old.sent taken same (ap (λ (y : Turned VolumeNow Call Reply). y.host) e) sent_is taken_is events_are
 
 -- ---- opening
 

@@ -22,7 +22,7 @@ with_completions (noted.Commit ∷ es) cs = runs.Commit false ∷ with_completio
 with_completions (noted.Writeback pick ∷ es) cs = runs.WriteBack false pick ∷ with_completions es cs
 with_completions (noted.Flush ∷ es) cs = runs.FlushStep false None ∷ with_completions es cs
 with_completions (noted.Take ∷ es) [] = with_completions es []
-with_completions (noted.Take ∷ es) (c ∷ cs) = runs.FlushStep false (Some c) ∷ with_completions es cs
+with_completions (noted.Take ∷ es) (c ∷ cs) = runs.TakeStep (Some c) ∷ with_completions es cs
 
 -- how many completions they took
 abbrev pub takes : List HostEvent → ℕ

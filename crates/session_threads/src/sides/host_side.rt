@@ -133,6 +133,29 @@ impl<'a, N: SessionNames, H: Wait> HostSide<'a, N, H> {
         Ok(turn)
     }
 
+    /// Takes a completion, though a flush may be due. It does nothing where more than the limit of completions were taken.
+    pub fn take(&mut self) -> Result<Turn, NoMemory> {
+        self.events.reserve(1)?;
+        if self.host.taken_count() > self.host.limit() {
+            return Ok(Turn::Idle);
+        }
+        let turn = self.host.take_step(&mut self.from);
+        match turn {
+            Turn::Did => self.events.push_reserved(HostEvent::Take),
+            Turn::Idle | Turn::QueueFull | Turn::SessionFull | Turn::NoMemory => {}
+        }
+        Ok(turn)
+    }
+
+    /// The step of the flush actor, or a completion where its flush finds the submission queue full: behind a power cut the
+    /// queue stays full, and no call ends before the completion that tells of the cut is taken.
+    pub fn flush_or_take(&mut self) -> Result<Turn, NoMemory> {
+        match self.flush()? {
+            Turn::QueueFull => self.take(),
+            turn => Ok(turn),
+        }
+    }
+
     /// Whether a completion of each submitted request was taken, or the power went or a request failed.
     pub fn is_answered(&self) -> bool {
         self.host.has_stopped() || self.host.taken_count() >= self.host.submitted()

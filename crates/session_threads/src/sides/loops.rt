@@ -138,7 +138,7 @@ pub fn flush_loop<N: SessionNames, H: Wait, G: Gate>(
             continue;
         }
         let submitted = flags.is_submitted();
-        let step = side.lock(rt).flush();
+        let step = side.lock(rt).flush_or_take();
         match turned(flags, step) {
             None => return,
             Some(true) => continue,

@@ -15,7 +15,7 @@ pub enum HostEvent {
     Writeback(u32),
     /// The flush actor submitted a flush.
     Flush,
-    /// The flush actor took the next completion.
+    /// The flush actor took the next completion, or that alone was taken though a flush was due.
     Take,
 }
 
