@@ -100,7 +100,7 @@ fn cut_blocks(alloc: Global, blocks: &FileBlocks, size: u32) -> Result<FileBlock
     let mut cut = FileBlocks::new(alloc);
     for (index, body) in blocks.as_map() {
         if 1024 * u64::from(*index) < u64::from(size) {
-            cut.put(*index, cut_body(size, *index, body))?;
+            cut.put(*index, cut_body(size, *index, body.block()))?;
         }
     }
     Ok(cut)

@@ -40,7 +40,7 @@ pub use file_laws::{
 };
 pub use laws::{examples_of_calls, nodes_have_paths, same_metadata_chains, texts_list_paths};
 pub use lists::{ByteList, NameList};
-pub use maps::{FileBlocks, Names};
+pub use maps::{Body, FileBlocks, Names};
 pub use name_laws::{
     a_move_keeps_its_node, answers_tell_what_stands, links_and_slots_count_names, one_path_comes,
     one_path_goes, other_nodes_stay, paths_move_along,

@@ -87,10 +87,41 @@ impl Names {
     }
 }
 
+/// The body of a mapped block. It moves without its 1,024 bytes: a map of few blocks keeps no room for the bodies of more.
+#[derive(Drop)]
+pub struct Body {
+    block: Box<Block>,
+}
+
+impl Model for Body {
+    ghost use Rattle.std.specs.Prelude.{List, ℕ};
+
+    ghost Value = { List ℕ };
+
+    ghost view = { λ b. b.block.value };
+}
+
+impl Body {
+    fn make(alloc: Global, block: Block) -> Result<Body, NoMemory>
+        ensures { IfOk result (λ b. b ≡ block) }
+    {
+        Ok(Body {
+            block: Box::new(alloc, block)?,
+        })
+    }
+
+    pub fn block(&self) -> &Block
+        ensures { result.now ≡ self.now }
+    {
+        &self.block
+    }
+}
+
 /// The mapped blocks of a file by their places in it, counted from 0.
 #[derive(Drop)]
 pub struct FileBlocks {
-    map: BTreeMap<u32, Block>,
+    alloc: Global,
+    map: BTreeMap<u32, Body>,
 }
 
 impl Model for FileBlocks {
@@ -107,6 +138,7 @@ impl FileBlocks {
         ensures { result ≡ [] }
     {
         FileBlocks {
+            alloc,
             map: BTreeMap::new(alloc),
         }
     }
@@ -115,14 +147,16 @@ impl FileBlocks {
     pub fn get(&self, index: u32) -> Option<&Block>
         ensures { option_copied result ≡ at_number self.now index }
     {
-        self.map.get(&index)
+        let body = self.map.get(&index)?;
+        Some(body.block())
     }
 
     /// Maps a block of the file.
-    pub fn put(&mut self, index: u32, body: Block) -> Result<(), NoMemory>
-        ensures put { OnOk result (self.new ≡ put_number self.old index body) }
+    pub fn put(&mut self, index: u32, block: Block) -> Result<(), NoMemory>
+        ensures put { OnOk result (self.new ≡ put_number self.old index block) }
         ensures kept { OnErr result (self.new ≡ self.old) }
     {
+        let body = Body::make(self.alloc, block)?;
         match self.map.insert(index, body) {
             Ok(_) => Ok(()),
             Err(_) => Err(NoMemory),
@@ -130,7 +164,7 @@ impl FileBlocks {
     }
 
     /// The blocks in rising order.
-    pub fn as_map(&self) -> &BTreeMap<u32, Block>
+    pub fn as_map(&self) -> &BTreeMap<u32, Body>
         ensures { result.now.entries ≡ self.now }
     {
         &self.map
@@ -142,7 +176,7 @@ impl FileBlocks {
     {
         let mut copy = FileBlocks::new(alloc);
         for (index, body) in &self.map {
-            copy.put(*index, body.copy())?;
+            copy.put(*index, body.block().copy())?;
         }
         Ok(copy)
     }

@@ -105,8 +105,8 @@ fn put_block(out: &mut String, size: u32, index: u32, block: &Block) -> Result<(
 fn put_blocks(out: &mut String, size: u32, blocks: &FileBlocks) -> Result<(), AllocError>
     ensures { OnOk result (string_bytes out.new ≡ string_bytes out.old ++ blocks_text size blocks.now) }
 {
-    for (index, block) in blocks.as_map() {
-        put_block(out, size, *index, block)?;
+    for (index, body) in blocks.as_map() {
+        put_block(out, size, *index, body.block())?;
     }
     Ok(())
 }
