@@ -5,6 +5,7 @@ use Rattle.order_model.specs.declared.completion.Completion.{Completion}
 use Rattle.order_model.specs.declared.device.OrderedDev.{Ghosts}
 use Rattle.order_model.specs.Device.{Seen}
 
+-- a device by its calls: what is asked of a state S, and the state after each step
 pub record Machine (S : Type 0) : Type 0 where
   pub seen : S → Seen
   -- whether a command is taken, and how many may be transferred and blocks written next

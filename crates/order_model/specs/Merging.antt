@@ -12,6 +12,7 @@ abbrev pub ungrouped : List (List Command) → List Command
 ungrouped [] = []
 ungrouped (g ∷ gs) = g ++ ungrouped gs
 
+-- the flush of the first command: in a group, a flush is alone
 abbrev pub first_flush : List Command → Option ℕ
 first_flush [] = None
 first_flush (c ∷ cs) = c.flush

@@ -11,10 +11,12 @@ use Rattle.order_model.specs.declared.request.Request.{Request}
 abbrev pub blank_command : Command
 blank_command = record { parts = []; priority = Simple; barrier = false; flush = None }
 
+-- a put is one part; a flush has none
 abbrev pub parts_for : ℕ → Kind → List Part
 parts_for id (Put block body) = record { id = id; block = block; body = body } ∷ []
 parts_for id Flush = []
 
+-- the id of a flush; a put has none
 abbrev pub flush_for : ℕ → Kind → Option ℕ
 flush_for id (Put block body) = None
 flush_for id Flush = Some id
