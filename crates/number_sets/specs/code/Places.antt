@@ -17,6 +17,7 @@ pub record BelongsAt (xs : List ℕ) (x at : ℕ) : Type 0 where
   pub added : with xs x ≡ insert xs at x
   pub taken : without_all xs (x ∷ []) ≡ xs
 
+-- Ok is the place at which the number stands, Err the one at which it would go in
 abbrev pub IsPlaceOf : List ℕ → ℕ → Result ℕ ℕ → Type 0
 IsPlaceOf xs x (Ok at) = StandsAt xs x at
 IsPlaceOf xs x (Err at) = BelongsAt xs x at
