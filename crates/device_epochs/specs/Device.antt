@@ -15,6 +15,7 @@ use Rattle.device_epochs.specs.declared.cache.Entry.{Entry}
 use Rattle.device_epochs.specs.declared.device.DeviceSetup.{DeviceSetup}
 use Rattle.device_epochs.specs.Cache.{entries, put_all, oldest, without_entry}
 
+-- the device of epochs: its medium, the cache before it, the commands that wait, and what was done so far
 pub record DeviceState : Type 0 where
   -- the image that it was made over, and the medium, with the place of the part that each block holds
   pub base : List (List ℕ)
@@ -73,9 +74,11 @@ is_off s = is_number s.cut_at s.steps
 
 -- ---- receiving
 
+-- the power is on, and fewer commands wait than the queue may hold
 abbrev pub has_room : DeviceState → Bool
 has_room s = not (is_off s) && nat_lt (length s.queue.waiting) s.queue.depth
 
+-- the command waits, as the last one to arrive
 abbrev pub received : DeviceState → Command → DeviceState
 received s c = record s { took = s.took ++ c ∷ []; queue = arrived s.queue c }
 
@@ -89,6 +92,7 @@ may_transfer s w = not (is_some w.command.flush) || (length s.cache == 0)
 abbrev pub has_stopped : DeviceState → Bool
 has_stopped s = is_off s || s.failed
 
+-- the commands that may be transferred next, in order of arrival
 abbrev pub transferable : DeviceState → List Waiting
 transferable s = if has_stopped s then [] else filter (may_transfer s) (eligible s.queue.waiting)
 
@@ -124,11 +128,13 @@ abbrev pub tried : DeviceState → Option Waiting → DeviceState
 tried s None = s
 tried s (Some w) = if fails_next s then failed_on s w else performed s w
 
+-- the command at place pick of these is transferred, or fails; a pick behind the last one changes nothing
 abbrev pub transferred : DeviceState → ℕ → DeviceState
 transferred s pick = tried s (slice_get (transferable s) pick)
 
 -- ---- persisting
 
+-- the entries that may be written next: those of the oldest epoch in the cache
 abbrev pub persistable : DeviceState → List Entry
 persistable s = if is_off s then [] else oldest s.cache
 
@@ -146,6 +152,7 @@ written s (Some e) = record s {
   steps = s.steps + 1;
 }
 
+-- the entry at place pick of these is written; a pick behind the last one changes nothing
 abbrev pub persisted : DeviceState → ℕ → DeviceState
 persisted s pick = written s (slice_get (persistable s) pick)
 
@@ -159,18 +166,22 @@ tells_cut s = is_off s && not s.told
 abbrev pub answers_left : DeviceState → List Completion
 answers_left s = s.waiting ++ (if tells_cut s then Cut ∷ [] else [])
 
+-- the cut is handed out after all other completions
 abbrev pub next_answer : DeviceState → Option Completion
 next_answer s = slice_get (answers_left s) 0
 
+-- the first of these completions is handed out; where there is none, the cut, if it is to be told
 abbrev pub answered_from : DeviceState → List Completion → DeviceState
 answered_from s (c ∷ cs) = record s { sent = s.sent ++ c ∷ []; waiting = cs }
 answered_from s [] = if tells_cut s then record s { sent = s.sent ++ Cut ∷ []; told = true } else s
 
+-- the next completion is handed out; where there is none, nothing changes
 abbrev pub answered : DeviceState → DeviceState
 answered s = answered_from s s.waiting
 
 -- ---- reading
 
+-- one more read was made: where it is the one that fails, that is one more fault
 abbrev pub after_read : DeviceState → DeviceState
 after_read s = record s {
   bad_read = counted s.bad_read;
@@ -186,6 +197,7 @@ pub record IsSound (s : DeviceState) : Type 0 where
 
 -- ---- what is seen
 
+-- the cache is not seen; a cut that was not told is among the completions not yet handed out
 abbrev pub seen : DeviceState → Seen
 seen s = record {
   base = s.base;

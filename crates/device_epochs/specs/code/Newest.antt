@@ -25,6 +25,7 @@ pub record HasBlockAt (block : ℕ) (cache : List Entry) (place : ℕ) : Type 0 
 
 -- ---- what the fields say
 
+-- the cache as contracts see it: its entries in order, and its room
 pub record CacheState : Type 0 where
   pub items : List Entry
   -- for how many blocks and for how many entries there is room
@@ -47,6 +48,7 @@ pub record AreKeys (appended : ℕ) (cache : List Entry) (keys newest_keys : Lis
   pub below : (i k : ℕ) → slice_get keys i ≡ Some k → k < appended
   pub named : (block place : ℕ) → newest_place cache block ≡ Some place → slice_get newest_keys block ≡ slice_get keys place
 
+-- the keys fit the entries, and there is as much capacity for keys as for entries
 pub record IsCache (c : Inside) : Type 0 where
   pub keys : AreKeys c.appended c.entries.items c.keys.items c.newest_keys.items
   pub room : deque_capacity c.keys ≡ deque_capacity c.entries

@@ -29,6 +29,8 @@ with_waiting q ws = record q { waiting = ws }
 
 -- ---- what was received, and what waits
 
+-- each command received is a flush or has parts; barriers and flushes are ORDERED; all blocks are there;
+-- no id stands twice, and there are at most `limit` of them
 pub record CommandFacts (blocks limit : ℕ) (took : List Command) : Type 0 where
   pub whole : (c : Command) → In c took → is_some c.flush ≡ (length c.parts == 0)
   pub ordered : (c : Command) → In c took → (c.barrier || is_some c.flush) ≡ true → c.priority ≡ Ordered
@@ -36,6 +38,7 @@ pub record CommandFacts (blocks limit : ℕ) (took : List Command) : Type 0 wher
   pub fresh : NoneTwice (all_ids took)
   pub few : length (all_ids took) ≤ limit
 
+-- each command that waits was received with its number, and none is done that had to wait for it
 pub record QueueFacts (took : List Command) (queue : QueueState) : Type 0 where
   pub some_depth : 0 < queue.depth
   pub next : queue.next ≡ length took
@@ -82,6 +85,8 @@ pub record IsCompletionOf (took : List Command) (waiting : List Waiting) (lost :
   pub taken : slice_get took k ≡ Some c
   pub cause : (IsDone took waiting k × In x (completions_of c)) ⊎ ((lost ≡ Some k) × In x (failures_of c))
 
+-- the completions are those of the commands that are done, the failures of the lost one, and the cut where it was
+-- told; each of them comes once
 pub record CompletionFacts (took : List Command) (waiting : List Waiting) (lost : Option ℕ) (completions : List Completion) (off told : Bool) : Type 0 where
   pub once : (i j id : ℕ) → option_and_then completion_id (slice_get completions i) ≡ Some id → option_and_then completion_id (slice_get completions j) ≡ Some id → i ≡ j
   pub source : (x : Completion) → In x completions → ((x ≡ Cut) × (told ≡ true)) ⊎ ((k : ℕ) × (c : Command) × IsCompletionOf took waiting lost x k c)
