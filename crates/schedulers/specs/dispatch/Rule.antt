@@ -6,6 +6,7 @@ use lib.ListN.{get_elem?}
 use Rattle.schedulers.specs.declared.dispatch.rule.PassView.{PassView}
 
 module _ {T : Type 0} where
+  -- whether a pass may put and may take, and what it knows was sent and was taken
   abbrev pub pass_view : Bool → Bool → List T → List T → PassView T
   pass_view puts takes sent taken = record { puts = puts; takes = takes; sent = sent; taken = taken }
 

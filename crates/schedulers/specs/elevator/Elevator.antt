@@ -16,6 +16,7 @@ use Rattle.schedulers.specs.reassign.Epoch.{EpochState, Waiting, can_accept, is_
 use Rattle.schedulers.specs.reassign.Sched.{command_of, waiting_ids}
 use Rattle.schedulers.specs.reassign.Scheduler.{SchedSteps}
 
+-- an elevator: what it accepted and sent out, the requests that wait, and where its head stands
 pub record ElevatorState : Type 0 where
   -- how many requests it may accept in all
   pub limit : ℕ
@@ -43,6 +44,7 @@ abbrev pub placed : ℕ → Waiting → List Waiting → List Waiting
 placed head w [] = w ∷ []
 placed head w (v ∷ vs) = if meets_before head (block_of w.request.kind) (block_of v.request.kind) then w ∷ v ∷ vs else v ∷ placed head w vs
 
+-- the requests in the order in which the head meets their blocks
 abbrev pub in_order : ℕ → List Waiting → List Waiting
 in_order head [] = []
 in_order head (w ∷ ws) = placed head w (in_order head ws)
@@ -67,9 +69,11 @@ abbrev pub is_put_of : ℕ → Kind → Bool
 is_put_of block (Put b body) = b == block
 is_put_of block Flush = false
 
+-- the request is order-preserving exactly where the flag says so
 abbrev pub has_class : Bool → Request → Bool
 has_class ordered r = if ordered then r.ordered else not r.ordered
 
+-- the request is a put of this block and of this class
 abbrev pub joins : ℕ → Bool → Waiting → Bool
 joins block ordered w = is_put_of block w.request.kind && has_class ordered w.request
 
@@ -104,6 +108,7 @@ abbrev pub leaving_as : EpochState → Waiting → Kind → Gathering
 leaving_as queue w (Put block body) = gathered 15 w.request.ordered (block + 1) (alone queue w)
 leaving_as queue w Flush = alone queue w
 
+-- a request leaves, a put with those that join it
 abbrev pub leaving_with : EpochState → Waiting → Gathering
 leaving_with queue w = leaving_as queue w w.request.kind
 
@@ -117,9 +122,11 @@ head_after head parts = option_map_or (λ (p : Part). p.block + 1) (slice_get pa
 abbrev pub opened : ℕ → ℕ → ElevatorState
 opened limit capacity = record { limit = limit; accepted = []; sent_out = []; queue = record { capacity = capacity; next = 0; waiting = []; closing = closings.Open }; head = 0 }
 
+-- the request is kept in the history as it was submitted, and waits
 abbrev pub accepted : ElevatorState → Request → ElevatorState
 accepted s r = record s { accepted = s.accepted ++ r ∷ []; queue = epoch.accepted s.queue r }
 
+-- the command is sent out, and the head stands behind its last part
 abbrev pub sent_as : ElevatorState → Gathering → ElevatorState
 sent_as s g = record s { sent_out = s.sent_out ++ g.command ∷ []; queue = g.queue; head = head_after s.head g.command.parts }
 
@@ -130,6 +137,7 @@ dispatched s pick = option_map_or (λ w. sent_as s (leaving_with s.queue w)) (pi
 abbrev pub seen_of : ElevatorState → SchedSeen
 seen_of s = record { limit = s.limit; capacity = s.queue.capacity; accepted = s.accepted; waiting = waiting_ids s.queue; blocked = is_blocked s.queue; sent_out = s.sent_out }
 
+-- a pick is a place among the requests that may leave, in the order in which the head meets them
 abbrev pub elevator_steps : SchedSteps ElevatorState
 elevator_steps = record {
   seen = seen_of;

@@ -29,6 +29,7 @@ is_open closings.Open = true
 is_open closings.Barrier = false
 is_open closings.Flush = false
 
+-- a barrier closes the queue, and not a flush
 abbrev pub is_barrier_closing : Closing → Bool
 is_barrier_closing closings.Open = false
 is_barrier_closing closings.Barrier = true
@@ -42,6 +43,7 @@ is_blocked s = not (is_open s.closing)
 abbrev pub is_full : EpochState → Bool
 is_full s = length s.waiting == s.capacity
 
+-- nothing closes the queue, and it has room
 abbrev pub can_accept : EpochState → Bool
 can_accept s = is_open s.closing && not (is_full s)
 
@@ -55,6 +57,7 @@ unflagged r = record { id = r.id; kind = r.kind; ordered = r.ordered; barrier = 
 abbrev pub closing_of : Request → Closing
 closing_of r = if is_flush r.kind then closings.Flush else (if r.barrier then closings.Barrier else closings.Open)
 
+-- the request waits, a put without its barrier flag; a barrier or a flush closes the queue
 abbrev pub accepted : EpochState → Request → EpochState
 accepted s r = record s {
   next = s.next + 1;

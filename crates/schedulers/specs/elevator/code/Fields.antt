@@ -7,6 +7,7 @@ use Rattle.schedulers.specs.elevator.laws.Valid.{IsElevator}
 abbrev pub state_of : Inside → ElevatorState
 state_of s = record { limit = s.limit; accepted = s.trace.accepted.items; sent_out = s.trace.sent_out.items; queue = s.queue; head = s.head }
 
+-- the state keeps what an elevator keeps, and both histories have room for all requests
 pub record IsInside (s : Inside) : Type 0 where
   pub valid : IsElevator (state_of s)
   -- both histories are of what may be accepted

@@ -19,6 +19,7 @@ abbrev pub better_than : ℕ → Option Found → ℕ → ℕ → Option Found
 better_than head None at block = Some (record { at = at; block = block })
 better_than head (Some f) at block = if meets_before head block f.block then Some (record { at = at; block = block }) else Some f
 
+-- the same, where the put lies behind `after`; else the best so far
 abbrev pub better : ℕ → Option ℕ → Option Found → ℕ → ℕ → Option Found
 better head after best at block = if is_behind head after block then better_than head best at block else best
 
@@ -34,6 +35,7 @@ pub record IsNextBelow (ws : List Waiting) (head : ℕ) (after : Option ℕ) (n 
 abbrev pub NoneBelow : List Waiting → ℕ → Option ℕ → ℕ → Type 0
 NoneBelow ws head after n = (j b : ℕ) → j < n → block_there ws j ≡ Some b → is_behind head after b ≡ false
 
+-- the best of the puts before place n is the next one behind `after`; it is none exactly where none lies behind
 abbrev pub IsBest : List Waiting → ℕ → Option ℕ → ℕ → Option Found → Type 0
 IsBest ws head after n best = MatchOption best (NoneBelow ws head after n) (IsNextBelow ws head after n)
 
