@@ -14,6 +14,7 @@ pub use Rattle.flog_device.specs.declared.log.Write.{Write}
 pub use Rattle.flog_device.specs.declared.log.Write.TheVariants.{Program, Fold}
 use Rattle.flog_device.specs.Log.{Page, pages, prefix, places, programmed_at, is_covered, body_at, laid, laid_origins}
 
+-- the flash log device: its data area, the log before it, the commands that wait, and what was done so far
 pub record FlogState : Type 0 where
   -- the image that it was made over, and the data area, with the place of the part that each block holds
   pub base : List (List ℕ)
@@ -71,6 +72,7 @@ opened image setup = record {
 abbrev pub is_off : FlogState → Bool
 is_off s = is_number s.cut_at s.steps
 
+-- the next transfer is the one that fails
 abbrev pub fails_next : FlogState → Bool
 fails_next s = is_number s.fail_at (s.transfers_made + 1)
 
@@ -91,9 +93,11 @@ all_programmed log = list_all (λ (p : Page). p.programmed) log
 
 -- ---- receiving
 
+-- the power is on, and fewer commands wait than the queue may hold
 abbrev pub has_room : FlogState → Bool
 has_room s = not (is_off s) && nat_lt (length s.queue.waiting) s.queue.depth
 
+-- the command waits, as the last one to arrive
 abbrev pub received : FlogState → Command → FlogState
 received s c = record s { took = s.took ++ c ∷ []; queue = arrived s.queue c }
 
@@ -103,6 +107,7 @@ received s c = record s { took = s.took ++ c ∷ []; queue = arrived s.queue c }
 abbrev pub fits : ℕ → Bool → Command → Bool
 fits free programmed c = nat_le (length c.parts) free && (not (is_some c.flush) || programmed)
 
+-- the log has places for it now, and a flush finds each page programmed
 abbrev pub may_transfer : FlogState → Waiting → Bool
 may_transfer s w = fits (free_places s) (all_programmed s.log) w.command
 
@@ -110,6 +115,7 @@ may_transfer s w = fits (free_places s) (all_programmed s.log) w.command
 abbrev pub has_stopped : FlogState → Bool
 has_stopped s = is_off s || s.failed
 
+-- the commands that may be transferred next, in order of arrival
 abbrev pub transferable : FlogState → List Waiting
 transferable s = if has_stopped s then [] else filter (may_transfer s) (eligible s.queue.waiting)
 
@@ -141,6 +147,7 @@ abbrev pub tried : FlogState → Option Waiting → FlogState
 tried s None = s
 tried s (Some w) = if fails_next s then failed_on s w else performed s w
 
+-- the command at place pick of these is transferred, or fails; a pick behind the last one changes nothing
 abbrev pub transferred : FlogState → ℕ → FlogState
 transferred s pick = tried s (slice_get (transferable s) pick)
 
@@ -160,6 +167,7 @@ folds (p ∷ ps) = if p.programmed then Fold ∷ [] else []
 abbrev pub writes : List Page → List Write
 writes log = programs 0 log ++ folds log
 
+-- the writes that may be made next: programs of pages in order, and last the fold of the oldest page
 abbrev pub persistable : FlogState → List Write
 persistable s = if is_off s then [] else writes s.log
 
@@ -174,11 +182,13 @@ folded_from s (p ∷ ps) = record s {
   steps = s.steps + 1;
 }
 
+-- a page is programmed, or the oldest one is folded; where there is no write, nothing changes
 abbrev pub written : FlogState → Option Write → FlogState
 written s None = s
 written s (Some (Program i)) = record s { log = programmed_at i s.log; steps = s.steps + 1 }
 written s (Some Fold) = folded_from s s.log
 
+-- the write at place pick of these is made; a pick behind the last one changes nothing
 abbrev pub persisted : FlogState → ℕ → FlogState
 persisted s pick = written s (slice_get (persistable s) pick)
 
@@ -192,13 +202,16 @@ tells_cut s = is_off s && not s.told
 abbrev pub answers_left : FlogState → List Completion
 answers_left s = s.waiting ++ (if tells_cut s then Cut ∷ [] else [])
 
+-- the cut is handed out after all other completions
 abbrev pub next_answer : FlogState → Option Completion
 next_answer s = slice_get (answers_left s) 0
 
+-- the first of these completions is handed out; where there is none, the cut, if it is to be told
 abbrev pub answered_from : FlogState → List Completion → FlogState
 answered_from s (c ∷ cs) = record s { sent = s.sent ++ c ∷ []; waiting = cs }
 answered_from s [] = if tells_cut s then record s { sent = s.sent ++ Cut ∷ []; told = true } else s
 
+-- the next completion is handed out; where there is none, nothing changes
 abbrev pub answered : FlogState → FlogState
 answered s = answered_from s s.waiting
 
@@ -207,9 +220,11 @@ answered s = answered_from s s.waiting
 abbrev pub surface : FlogState → List (List ℕ)
 surface s = laid s.took (places (prefix s.log)) s.data_area
 
+-- the place of the part that each block of the surface holds; none where it still holds the image's bytes
 abbrev pub surface_origins : FlogState → List (Option ℕ)
 surface_origins s = laid_origins (places (prefix s.log)) s.origins
 
+-- a cut that was not told is among the completions not yet handed out
 abbrev pub seen : FlogState → Seen
 seen s = record {
   base = s.base;

@@ -18,6 +18,7 @@ abbrev pub prefix : List Page → List Page
 prefix [] = []
 prefix (p ∷ ps) = if p.programmed then p ∷ prefix ps else []
 
+-- the block of the page, and the part whose body it has
 abbrev pub place_of : Page → Place
 place_of p = p.place
 

@@ -5,18 +5,23 @@ use Rattle.order_model.specs.declared.command.Command.{Command}
 use Rattle.order_model.specs.declared.command.Priority.TheVariants.{Ordered}
 use Rattle.flog_device.specs.Device.{FlogState, opened, received, transferred, persisted}
 
+-- an ORDERED put that is no barrier
 abbrev pub put_of : ℕ → ℕ → ℕ → Command
 put_of id block byte = record { parts = record { id = id; block = block; body = byte ∷ [] } ∷ []; priority = Ordered; barrier = false; flush = None }
 
+-- the image before, of three blocks
 abbrev pub zeros : List (List ℕ)
 zeros = (0 ∷ []) ∷ (0 ∷ []) ∷ (0 ∷ []) ∷ []
 
+-- the image after all three puts
 abbrev pub bodies : List (List ℕ)
 bodies = (17 ∷ []) ∷ (34 ∷ []) ∷ (51 ∷ []) ∷ []
 
+-- a device that takes three requests, with no failure and no power cut
 abbrev pub start : FlogState
 start = opened zeros (record { depth = 32; limit = 3; segments = 3; fail_at = None; cut_at = None })
 
+-- three puts wait, one of each block
 abbrev pub queued : FlogState
 queued = received (received (received start (put_of 0 0 17)) (put_of 1 1 34)) (put_of 2 2 51)
 
