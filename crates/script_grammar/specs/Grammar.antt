@@ -44,12 +44,14 @@ abbrev pub is_scheduled : Form → Bool
 is_scheduled (Device blocks) = false
 is_scheduled (Blocks blocks) = true
 
+-- the flag says whether the scheduler stands between
 abbrev pub form_of : Bool → ℕ → Form
 form_of true blocks = Blocks blocks
 form_of false blocks = Device blocks
 
 -- ---- the first line
 
+-- what is read after the first line
 abbrev pub new_reading : Form → Reading
 new_reading form = record { form = form; depth = None; queue = None; fail = None; cut = None; elevator = false; flash = None; section = sections.Header; puts = []; events = []; expanded = 0 }
 
@@ -58,6 +60,7 @@ abbrev pub opened : Bool → Option ℕ → Result Reading ScriptKind
 opened scheduled None = Err kinds.Word
 opened scheduled (Some n) = if nat_le 1 n && nat_le n MOST_BLOCKS then Ok (new_reading (form_of scheduled n)) else Err kinds.Number
 
+-- one number stands behind the first word: how many blocks there are
 abbrev pub form_line : Bool → List (List ℕ) → Result Reading ScriptKind
 form_line scheduled (n ∷ []) = opened scheduled (numeral n)
 form_line scheduled ws = Err kinds.Word
@@ -127,6 +130,7 @@ fits r line.Events = true
 fits r (line.Plain w count) = count_fits r count
 fits r (line.Pick w pick count) = nat_lt pick PLACES && count_fits r count
 
+-- a barrier keeps the order too
 abbrev pub is_ordered_class : Class → Bool
 is_ordered_class class.Free = false
 is_ordered_class class.Ordered = true
@@ -141,12 +145,15 @@ is_barrier_class class.Barrier = true
 abbrev pub put_request : ℕ → ℕ → ℕ → Class → Request
 put_request id block value k = record { id = id; kind = Put block (filled value); ordered = is_ordered_class k; barrier = is_barrier_class k }
 
+-- a flush keeps the order and is a barrier
 abbrev pub flush_request : ℕ → Request
 flush_request id = record { id = id; kind = Flush; ordered = true; barrier = true }
 
+-- one request more, after which no header line may stand
 abbrev pub with_request : Reading → Request → Reading
 with_request r q = record r { section = sections.Body; puts = r.puts ++ q ∷ [] }
 
+-- one event line more, counted with its repeats
 abbrev pub with_events : Reading → CoreEvent → ℕ → Reading
 with_events r e count = record r { events = r.events ++ record { what = One e; count = count } ∷ []; expanded = r.expanded + count }
 
@@ -203,9 +210,11 @@ read_one reading l = read_words reading (words_of l)
 abbrev pub read_line : ℕ → Option Reading → List ℕ → Result (Option Reading) (ℕ × ScriptKind)
 read_line n reading l = line_read read_one n reading l
 
+-- what was read, with the default depth and queue where no line says them
 abbrev pub script_read : Reading → Script
 script_read r = record { kind = r.form; header = record { depth = unwrap_or r.depth DEFAULT_DEPTH; queue = unwrap_or r.queue DEFAULT_QUEUE; fail = r.fail; cut = r.cut; elevator = r.elevator; flash = r.flash }; puts = r.puts; events = r.events }
 
+-- a text that ends before `events` is no script: the line after its last one is at fault
 abbrev pub ended_in : ℕ → Reading → Section → Result Script (ℕ × ScriptKind)
 ended_in n r sections.Events = Ok (script_read r)
 ended_in n r section = Err (n, kinds.Order)
@@ -237,6 +246,7 @@ pub record IsRequestOf (blocks id : ℕ) (q : Request) : Type 0 where
 abbrev pub blocks_of : Script → ℕ
 blocks_of s = form_blocks s.kind
 
+-- what a run needs of a script: blocks, depth, queue and requests are within their limits
 pub record IsRunnable (s : Script) : Type 0 where
   pub some_blocks : 1 ≤ blocks_of s
   pub few_blocks : blocks_of s ≤ MOST_BLOCKS

@@ -41,6 +41,7 @@ expanded_of (l ∷ ls) = l.count + expanded_of ls
 abbrev pub IsFilled : Request → Type 0
 IsFilled q = (block : ℕ) (body : List ℕ) → q.kind ≡ Put block body → (value : ℕ) × (value < 256) × (body ≡ filled value)
 
+-- a script that can be run, with events and header lines of its kind, and with numbers within their limits
 pub record IsWellFormed (s : Script) : Type 0 where
   pub runnable : IsRunnable s
   -- no line of a device script speaks of the queues or the scheduler

@@ -22,6 +22,7 @@ use Rattle.script_words.specs.Spelling.{numeral, hex_byte, count_of}
 
 -- ---- words, by group
 
+-- words that begin the first line of a script, and say of which kind it is
 abbrev pub first_word : List ℕ → Option FirstWord
 first_word w =
     if bytes_eq w (codes "device") then Some first.Device
@@ -29,6 +30,7 @@ first_word w =
     else if bytes_eq w (codes "volume") then Some first.Volume
     else None
 
+-- words of header lines
 abbrev pub header_word : List ℕ → Option HeaderWord
 header_word w =
     if bytes_eq w (codes "depth") then Some header.Depth
@@ -39,12 +41,14 @@ header_word w =
     else if bytes_eq w (codes "flash") then Some header.Flash
     else None
 
+-- words of requests
 abbrev pub body_word : List ℕ → Option BodyWord
 body_word w =
     if bytes_eq w (codes "put") then Some body.Put
     else if bytes_eq w (codes "flush") then Some body.Flush
     else None
 
+-- words of events that pick nothing
 abbrev pub plain_word : List ℕ → Option PlainWord
 plain_word w =
     if bytes_eq w (codes "submit") then Some plain.Submit
@@ -52,6 +56,7 @@ plain_word w =
     else if bytes_eq w (codes "receive") then Some plain.Receive
     else None
 
+-- words of events that pick a place
 abbrev pub pick_word : List ℕ → Option PickWord
 pick_word w =
     if bytes_eq w (codes "dispatch") then Some picks.Dispatch
@@ -87,6 +92,7 @@ abbrev pub is_host_event : List ℕ → Bool
 is_host_event w =
     bytes_eq w (codes "call") || (bytes_eq w (codes "commit") || (bytes_eq w (codes "answer") || (bytes_eq w (codes "round") || bytes_eq w (codes "back"))))
 
+-- words that are known, but begin no line of this kind of script
 abbrev pub volume_word : List ℕ → Option Word
 volume_word w = if is_volume_section w || (is_change w || (is_query w || is_host_event w)) then Some word.OfVolume else None
 
@@ -101,6 +107,7 @@ word_of w =
     (option_or (events_word w)
     (volume_word w))))))
 
+-- what a put says of order: none, order-preserving, or a barrier
 abbrev pub class_of : List ℕ → Option Class
 class_of w =
     if bytes_eq w (codes "free") then Some class.Free
@@ -110,6 +117,7 @@ class_of w =
 
 -- ---- lines, by the words behind the first
 
+-- one number stands behind the word, and nothing behind `elevator`
 abbrev pub header_line : HeaderWord → List (List ℕ) → Option Line
 header_line header.Depth (d ∷ []) = option_map line.Depth (numeral d)
 header_line header.Queue (q ∷ []) = option_map line.Queue (numeral q)
@@ -119,6 +127,7 @@ header_line header.Elevator [] = Some line.Elevator
 header_line header.Flash (n ∷ []) = option_map line.Flash (numeral n)
 header_line w ws = None
 
+-- block, value and class: a decimal number, two hexadecimal digits, and a word
 abbrev pub put_line : List ℕ → List ℕ → List ℕ → Option Line
 put_line b v c = option_and_then (λ block. option_and_then (λ value. option_map (λ k. line.Put block value k) (class_of c)) (hex_byte v)) (numeral b)
 
@@ -127,13 +136,16 @@ body_line body.Put (b ∷ v ∷ c ∷ []) = put_line b v c
 body_line body.Flush [] = Some line.Flush
 body_line w ws = None
 
+-- behind the word stands how often; nothing says once
 abbrev pub plain_line : PlainWord → List (List ℕ) → Option Line
 plain_line w ws = option_map (line.Plain w) (count_of ws)
 
+-- the place that is picked stands behind the word, and then how often
 abbrev pub pick_line : PickWord → List (List ℕ) → Option Line
 pick_line w [] = None
 pick_line w (p ∷ ws) = option_and_then (λ pick. option_map (line.Pick w pick) (count_of ws)) (numeral p)
 
+-- nothing stands behind `events`
 abbrev pub events_line : List (List ℕ) → Option Line
 events_line [] = Some line.Events
 events_line ws = None

@@ -7,6 +7,7 @@ use Rattle.script_grammar.specs.declared.script.Asked.{Asked}
 use Rattle.script_grammar.specs.declared.script.Asked.TheVariants as asked
 use Rattle.script_grammar.specs.declared.script.Row.{Row}
 
+-- all bytes of a put are its value
 abbrev pub kind_of : Asked → Kind
 kind_of (asked.Put block value) = kinds.Put block (filled value)
 kind_of asked.Flush = kinds.Flush
