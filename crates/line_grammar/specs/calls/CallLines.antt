@@ -22,6 +22,7 @@ use Rattle.script_words.specs.Spelling.{numeral, hex_byte}
 
 -- ---- first words
 
+-- calls of one path that change or read the tree
 abbrev pub naming_word : List ℕ → Option PathWord
 naming_word w =
     if bytes_eq w (codes "mkdir") then Some paths.Mkdir
@@ -32,6 +33,7 @@ naming_word w =
     else if bytes_eq w (codes "stat") then Some paths.Stat
     else None
 
+-- calls of one path that order or wait
 abbrev pub syncing_word : List ℕ → Option PathWord
 syncing_word w =
     if bytes_eq w (codes "fsync") then Some paths.Fsync
@@ -40,15 +42,18 @@ syncing_word w =
     else if bytes_eq w (codes "fdatabarrier") then Some paths.Fdatabarrier
     else None
 
+-- calls of one path and nothing else
 abbrev pub path_word : List ℕ → Option PathWord
 path_word w = option_or (naming_word w) (syncing_word w)
 
+-- calls of two paths
 abbrev pub pair_word : List ℕ → Option PairWord
 pair_word w =
     if bytes_eq w (codes "link") then Some pairs.Link
     else if bytes_eq w (codes "rename") then Some pairs.Rename
     else None
 
+-- calls of a path and an offset in bytes
 abbrev pub place_word : List ℕ → Option PlaceWord
 place_word w =
     if bytes_eq w (codes "write") then Some places.Write
@@ -56,6 +61,7 @@ place_word w =
     else if bytes_eq w (codes "read") then Some places.Read
     else None
 
+-- calls whose other words are like those of no other call
 abbrev pub own_word : List ℕ → Option CallWord
 own_word w =
     if bytes_eq w (codes "truncate") then Some word.Truncate
@@ -80,6 +86,7 @@ is_printed b = nat_le 33 b && nat_le b 126
 abbrev pub is_path_text : List ℕ → Bool
 is_path_text w = not (length w == 0) && list_all is_printed w
 
+-- the word, where it may stand for a path
 abbrev pub path_text : List ℕ → Option (List ℕ)
 path_text w = if is_path_text w then Some w else None
 
@@ -113,22 +120,27 @@ abbrev pub pair_spelled : PairWord → List (List ℕ) → Option Call
 pair_spelled w (p ∷ q ∷ []) = option_and_then (λ path. option_map (pair_call w path) (path_text q)) (path_text p)
 pair_spelled w ws = None
 
+-- a path and a size in bytes
 abbrev pub truncate_spelled : List (List ℕ) → Option Call
 truncate_spelled (p ∷ s ∷ []) = option_and_then (λ path. option_map (calls.Truncate path) (numeral s)) (path_text p)
 truncate_spelled ws = None
 
+-- how many bytes are written, and the byte that all of them are
 abbrev pub write_at : List ℕ → ℕ → List (List ℕ) → Option Call
 write_at path off (n ∷ v ∷ []) = option_and_then (λ len. option_map (calls.Write path off len) (hex_byte v)) (numeral n)
 write_at path off ws = None
 
+-- the bytes that are written, as hexadecimal digits
 abbrev pub bytes_at : List ℕ → ℕ → List (List ℕ) → Option Call
 bytes_at path off (h ∷ []) = option_map (calls.Bytes path off) (hex_text h)
 bytes_at path off ws = None
 
+-- how many bytes are read
 abbrev pub read_at : List ℕ → ℕ → List (List ℕ) → Option Call
 read_at path off (n ∷ []) = option_map (calls.Read path off) (numeral n)
 read_at path off ws = None
 
+-- what stands behind the offset, by the first word
 abbrev pub call_at : PlaceWord → List ℕ → ℕ → List (List ℕ) → Option Call
 call_at places.Write path off ws = write_at path off ws
 call_at places.Bytes path off ws = bytes_at path off ws
@@ -139,6 +151,7 @@ abbrev pub place_spelled : PlaceWord → List (List ℕ) → Option Call
 place_spelled w (p ∷ o ∷ ws) = option_and_then (λ path. option_and_then (λ off. call_at w path off ws) (numeral o)) (path_text p)
 place_spelled w ws = None
 
+-- nothing stands behind `sync`
 abbrev pub sync_spelled : List (List ℕ) → Option Call
 sync_spelled [] = Some calls.Sync
 sync_spelled ws = None
@@ -166,6 +179,7 @@ call_fits c = true
 
 -- ---- calls
 
+-- a fault of the spelling counts before one of a number
 abbrev pub call_taken : Option Call → Result Call LineFault
 call_taken None = Err faults.Spelling
 call_taken (Some c) = if call_fits c then Ok c else Err faults.Number

@@ -22,6 +22,7 @@ pub record AreBytes (bytes : List ℕ) : Type 0 where
   pub some : 1 ≤ length bytes
   pub most : 2 * length bytes ≤ MOST_DIGITS
 
+-- a line can spell the call: its paths are printed, and its offsets, lengths and bytes are within their limits
 abbrev pub IsWellFormed : Call → Type 0
 IsWellFormed (calls.Mkdir p) = IsPathText p
 IsWellFormed (calls.Rmdir p) = IsPathText p

@@ -22,6 +22,7 @@ use Rattle.script_words.specs.Spelling.{numeral, count_of}
 
 -- ---- first words
 
+-- words of events that pick nothing
 abbrev pub plain_word : List ℕ → Option PlainWord
 plain_word w =
     if bytes_eq w (codes "submit") then Some plain.Submit
@@ -32,6 +33,7 @@ plain_word w =
     else if bytes_eq w (codes "answer") then Some plain.Answer
     else None
 
+-- words of events that pick a thread or a place
 abbrev pub pick_word : List ℕ → Option PickWord
 pick_word w =
     if bytes_eq w (codes "call") then Some picks.Call
@@ -41,6 +43,7 @@ pick_word w =
     else if bytes_eq w (codes "persist") then Some picks.Persist
     else None
 
+-- words of turns, which are several events
 abbrev pub turn_word : List ℕ → Option TurnWord
 turn_word w =
     if bytes_eq w (codes "round") then Some turns.Round
@@ -79,6 +82,7 @@ turn_event turns.Back = Back
 abbrev pub is_count : ℕ → Bool
 is_count count = nat_le 1 count && nat_le count MOST_REPEATS
 
+-- the count is none where it is spelled wrongly
 abbrev pub plain_taken : PlainWord → Option ℕ → Result EventLine LineFault
 plain_taken w None = Err faults.Spelling
 plain_taken w (Some count) = if is_count count then Ok (record { what = One (plain_event w); count = count }) else Err faults.Number
@@ -93,10 +97,12 @@ abbrev pub turn_taken : TurnWord → Option ℕ → Option ℕ → Result EventL
 turn_taken w (Some n) (Some m) = if is_count n && (is_count m && nat_le (8 * (n * m)) MOST_EVENTS) then Ok (record { what = turn_event w; count = n * m }) else Err faults.Number
 turn_taken w n m = Err faults.Spelling
 
+-- the thread or place that is picked stands behind the word, and then how often
 abbrev pub pick_line : PickWord → List (List ℕ) → Result EventLine LineFault
 pick_line w [] = Err faults.Spelling
 pick_line w (p ∷ ws) = pick_taken w (numeral p) (count_of ws)
 
+-- the number of turns stands behind the word, and then how often
 abbrev pub turn_line : TurnWord → List (List ℕ) → Result EventLine LineFault
 turn_line w [] = Err faults.Spelling
 turn_line w (n ∷ ws) = turn_taken w (numeral n) (count_of ws)

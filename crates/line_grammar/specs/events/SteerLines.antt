@@ -8,6 +8,7 @@ use Rattle.script_words.specs.declared.line_error.LineFault.{LineFault}
 use Rattle.script_words.specs.declared.line_error.LineFault.TheVariants as faults
 use Rattle.script_words.specs.Spelling.{numeral}
 
+-- a number that is not within its limit is the fault
 abbrev pub if_within : Bool → Steer → Result Steer LineFault
 if_within within s = if within then Ok s else Err faults.Number
 
@@ -20,6 +21,7 @@ steer_taken letter (Some n) =
     else if letter == 100 then if_within (nat_le n MOST_DEFAULTS) (steers.Default n)
     else Err faults.Spelling
 
+-- a letter with its number, as one word
 abbrev pub steer_of : List ℕ → Result Steer LineFault
 steer_of [] = Err faults.Spelling
 steer_of (b ∷ bs) = steer_taken b (numeral bs)

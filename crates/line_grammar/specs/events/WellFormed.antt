@@ -39,6 +39,7 @@ pub record AreTurns (count : ℕ) : Type 0 where
   pub product : turns * repeats ≡ count
   pub most : 8 * count ≤ MOST_EVENTS
 
+-- one event has a count, and turns have the product of their two numbers
 abbrev pub IsLineOf : EventWord → ℕ → Type 0
 IsLineOf (One event) count = IsEvent event × IsCount count
 IsLineOf Round count = AreTurns count
@@ -47,6 +48,7 @@ IsLineOf Back count = AreTurns count
 abbrev pub IsEventLine : EventLine → Type 0
 IsEventLine l = IsLineOf l.what l.count
 
+-- a pick is below 2^32, and a recovery takes at most 1,000,000 steps by itself for one word
 abbrev pub IsSteer : Steer → Type 0
 IsSteer (steers.Transfer pick) = pick < PLACES
 IsSteer (steers.Persist pick) = pick < PLACES
