@@ -58,18 +58,22 @@ abbrev pub have_geometry : ℕ → ℕ → ℕ → Bool
 have_geometry inodes zones journal =
     nat_lt (first_zone inodes zones) zones && (nat_le LEAST_JOURNAL journal && nat_le journal MOST_JOURNAL)
 
+-- no header line was read
 abbrev pub none_told : HeaderSoFar
 none_told = record { depth = None; queue = None; limit = None; fail = None; cut = None; seed = None; flash = None; elevator = false }
 
+-- what is read after the first line
 abbrev pub new_reading : ℕ → ℕ → ℕ → VolumeForm → Reading
 new_reading inodes zones journal form = record { inodes = inodes; zones = zones; journal = journal; width = form.width; wide = form.wide; told = none_told; section = sections.Opening; programs = []; lines = []; events = []; expanded = 0; recovers = [] }
 
+-- that a size is outside its limit counts before what volume can be made of them
 abbrev pub sizes_taken : ℕ → ℕ → ℕ → VolumeForm → Result Reading ScriptKind
 sizes_taken inodes zones journal form =
     if not (are_sizes inodes zones journal) then Err kinds.Number
     else if not (have_geometry inodes zones journal) then Err kinds.Geometry
     else Ok (new_reading inodes zones journal form)
 
+-- none stands for words that are spelled wrongly
 abbrev pub opened : Option ℕ → Option ℕ → Option ℕ → Option VolumeForm → Result Reading ScriptKind
 opened (Some inodes) (Some zones) (Some journal) (Some form) = sizes_taken inodes zones journal form
 opened inodes zones journal form = Err kinds.Word
@@ -96,10 +100,12 @@ abbrev pub journal_line : Option ℕ → Option ℕ → List (List ℕ) → Resu
 journal_line inodes zones (j ∷ n ∷ ws) = if bytes_eq j (codes "journal") then opened inodes zones (numeral n) (form_told ws) else Err kinds.Word
 journal_line inodes zones ws = Err kinds.Word
 
+-- zones Z, and what stands behind it
 abbrev pub zones_line : Option ℕ → List (List ℕ) → Result Reading ScriptKind
 zones_line inodes (z ∷ n ∷ ws) = if bytes_eq z (codes "zones") then journal_line inodes (numeral n) ws else Err kinds.Word
 zones_line inodes ws = Err kinds.Word
 
+-- inodes I, and what stands behind it
 abbrev pub volume_line : List (List ℕ) → Result Reading ScriptKind
 volume_line (i ∷ n ∷ ws) = if bytes_eq i (codes "inodes") then zones_line (numeral n) ws else Err kinds.Word
 volume_line ws = Err kinds.Word
@@ -135,6 +141,7 @@ stands_in section threads w = false
 abbrev pub has_threads : Reading → Bool
 has_threads r = nat_lt 0 (length r.programs)
 
+-- whether the line may stand here: header lines come before the first thread, and calls behind it
 abbrev pub may_stand : Reading → Word → Bool
 may_stand r w = stands_in r.section (has_threads r) w
 
@@ -156,6 +163,7 @@ stood_before t w = false
 
 -- ---- header lines
 
+-- the number is within the limits of its header line
 abbrev pub number_fits : NumberWord → ℕ → Bool
 number_fits numbers.Depth n = nat_le 1 n && nat_le n MOST_DEPTH
 number_fits numbers.Queue n = nat_le 1 n && nat_le n MOST_QUEUE
@@ -174,10 +182,12 @@ with_number t numbers.Cut n = record t { cut = Some n }
 with_number t numbers.Seed n = record t { seed = Some n }
 with_number t numbers.Flash n = record t { flash = Some n }
 
+-- none stands for a number that is spelled wrongly
 abbrev pub number_taken : HeaderSoFar → NumberWord → Option ℕ → Result HeaderSoFar ScriptKind
 number_taken t w None = Err kinds.Word
 number_taken t w (Some n) = if number_fits w n then Ok (with_number t w n) else Err kinds.Number
 
+-- one number stands behind the word, and nothing behind `elevator`
 abbrev pub header_line : HeaderSoFar → HeaderWord → List (List ℕ) → Result HeaderSoFar ScriptKind
 header_line t (header.Number w) (n ∷ []) = number_taken t w (numeral n)
 header_line t header.Elevator [] = Ok (record t { elevator = true })
@@ -198,6 +208,7 @@ abbrev pub thread_taken : Reading → Option ℕ → Result Reading ScriptKind
 thread_taken r None = Err kinds.Word
 thread_taken r (Some n) = if (n == length r.programs + 1) && nat_le n MOST_THREADS then Ok (with_thread r) else Err kinds.Number
 
+-- the number of the thread, counted from 1, stands behind `thread`
 abbrev pub thread_line : Reading → List (List ℕ) → Result Reading ScriptKind
 thread_line r (n ∷ []) = thread_taken r (numeral n)
 thread_line r ws = Err kinds.Word
@@ -206,6 +217,7 @@ thread_line r ws = Err kinds.Word
 abbrev pub with_call : Reading → List ℕ → Call → Reading
 with_call r line c = record r { programs = pushed_last r.programs c; lines = r.lines ++ line ∷ [] }
 
+-- a thread has at most 10,000 calls
 abbrev pub call_added : Reading → List ℕ → Call → Result Reading ScriptKind
 call_added r line c = if nat_lt (last_length r.programs) MOST_CALLS then Ok (with_call r line c) else Err kinds.Number
 
@@ -213,6 +225,7 @@ abbrev pub call_taken : Reading → List ℕ → Result Call LineFault → Resul
 call_taken r line (Err fault) = Err (kind_of fault)
 call_taken r line (Ok c) = call_added r line c
 
+-- nothing stands behind `events`
 abbrev pub events_line : Reading → List (List ℕ) → Result Reading ScriptKind
 events_line r [] = Ok (record r { section = sections.Events })
 events_line r ws = Err kinds.Word
@@ -230,12 +243,15 @@ events_of threads (One e) count = count
 events_of threads Round count = count * (threads + 8)
 events_of threads Back count = count * 8
 
+-- how many events the line is in a script with so many threads
 abbrev pub weight : ℕ → EventLine → ℕ
 weight threads l = events_of threads l.what l.count
 
+-- a thread that it names is there, and all events so far are within the limit
 abbrev pub event_fits : Reading → EventLine → Bool
 event_fits r l = names_thread (length r.programs) l.what && nat_le (r.expanded + weight (length r.programs) l) MOST_EVENTS
 
+-- one event line more, counted with its repeats
 abbrev pub with_event : Reading → EventLine → Reading
 with_event r l = record r { events = r.events ++ l ∷ []; expanded = r.expanded + weight (length r.programs) l }
 
@@ -248,9 +264,11 @@ event_taken r (Ok l) = event_added r l
 
 -- ---- `recover` lines
 
+-- one attempt of recovery more
 abbrev pub with_recover : Reading → List Steer → Reading
 with_recover r ss = record r { section = sections.Recovery; recovers = r.recovers ++ ss ∷ [] }
 
+-- there are at most 100 attempts of recovery
 abbrev pub recover_added : Reading → List Steer → Result Reading ScriptKind
 recover_added r ss = if nat_lt (length r.recovers) MOST_RECOVERS then Ok (with_recover r ss) else Err kinds.Number
 
@@ -281,6 +299,7 @@ later_line r line (Some w) ws =
 
 -- ---- all lines
 
+-- the line with `events` was read
 abbrev pub is_behind_events : Section → Bool
 is_behind_events sections.Opening = false
 is_behind_events sections.Events = true
@@ -300,12 +319,14 @@ read_one reading l = read_words reading l (words_of l)
 abbrev pub read_line : ℕ → Option Reading → List ℕ → Result (Option Reading) (ℕ × ScriptKind)
 read_line n reading l = line_read read_one n reading l
 
+-- what the header lines said, with the defaults of those that were not there
 abbrev pub header_of : HeaderSoFar → SessionHeader
 header_of t = record { depth = unwrap_or t.depth DEFAULT_DEPTH; queue = unwrap_or t.queue DEFAULT_QUEUE; limit = unwrap_or t.limit DEFAULT_LIMIT; fail = t.fail; cut = t.cut; seed = unwrap_or t.seed DEFAULT_SEED; flash = t.flash; elevator = t.elevator }
 
 abbrev pub script_read : Reading → SessionScript
 script_read r = record { inodes = r.inodes; zones = r.zones; journal = r.journal; width = r.width; wide = r.wide; header = header_of r.told; programs = r.programs; lines = r.lines; events = r.events; recovers = r.recovers }
 
+-- a text that ends before `events` is no script: the line after its last one is at fault
 abbrev pub ended_in : ℕ → Reading → Section → Result SessionScript (ℕ × ScriptKind)
 ended_in n r sections.Opening = Err (n, kinds.Order)
 ended_in n r section = Ok (script_read r)

@@ -31,6 +31,7 @@ pub record AreSizes (inodes zones journal : ℕ) : Type 0 where
   pub least_journal : LEAST_JOURNAL ≤ journal
   pub most_journal : journal ≤ MOST_JOURNAL
 
+-- the numbers of the header lines are within their limits
 pub record IsHeader (h : SessionHeader) : Type 0 where
   pub some_depth : 1 ≤ h.depth
   pub depth : h.depth ≤ MOST_DEPTH
@@ -70,11 +71,13 @@ IsStepOf threads (core.Call t) = (1 ≤ t) × (t ≤ threads)
 IsStepOf threads core.Submit = ⊥
 IsStepOf threads e = Unit {0}
 
+-- rounds and `back` name no thread
 abbrev pub IsTurnOf : ℕ → EventWord → Type 0
 IsTurnOf threads (One e) = IsStepOf threads e
 IsTurnOf threads Round = Unit {0}
 IsTurnOf threads Back = Unit {0}
 
+-- an event line of a script with so many threads
 pub record IsEventOf (threads : ℕ) (l : EventLine) : Type 0 where
   pub line : IsEventLine l
   pub turn : IsTurnOf threads l.what
@@ -84,6 +87,7 @@ abbrev pub expanded_of : ℕ → List EventLine → ℕ
 expanded_of threads [] = 0
 expanded_of threads (l ∷ ls) = weight threads l + expanded_of threads ls
 
+-- a script of a volume that can be made, with numbers within their limits, and with the line of each call
 pub record IsWellFormed (s : SessionScript) : Type 0 where
   pub sizes : AreSizes s.inodes s.zones s.journal
   pub width : IsWidth s.width

@@ -12,6 +12,7 @@ use Rattle.script_grammar.specs.Words.{first_word}
 use Rattle.line_grammar.specs.calls.CallLines.{call_word}
 use Rattle.line_grammar.specs.events.EventLines.{event_word}
 
+-- words of header lines with a number
 abbrev pub number_word : List ℕ → Option NumberWord
 number_word w =
     if bytes_eq w (codes "depth") then Some numbers.Depth
@@ -23,6 +24,7 @@ number_word w =
     else if bytes_eq w (codes "flash") then Some numbers.Flash
     else None
 
+-- the word of the header line without one
 abbrev pub other_header : List ℕ → Option HeaderWord
 other_header w = if bytes_eq w (codes "elevator") then Some header.Elevator else None
 
