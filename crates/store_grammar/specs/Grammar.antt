@@ -32,6 +32,7 @@ use Rattle.store_grammar.specs.Words.{word_of}
 
 -- ---- the first line
 
+-- no header line was read
 abbrev pub none_told : HeaderSoFar
 none_told = record { depth = None; queue = None; fail = None; cut = None }
 
@@ -39,14 +40,17 @@ none_told = record { depth = None; queue = None; fail = None; cut = None }
 abbrev pub new_reading : ℕ → Reading
 new_reading room = record { room = room; told = none_told; section = sections.Header; ops = []; puts = 0; calls = fill_count room + 2; events = []; expanded = 0; recovers = [] }
 
+-- the log has 1 to 1,000 blocks; none stands for a number that is spelled wrongly
 abbrev pub room_taken : Option ℕ → Result Reading ScriptKind
 room_taken None = Err kinds.Word
 room_taken (Some n) = if nat_le 1 n && nat_le n MOST_STORE then Ok (new_reading n) else Err kinds.Number
 
+-- the number of blocks of the log stands behind `store`
 abbrev pub store_line : List (List ℕ) → Result Reading ScriptKind
 store_line (n ∷ []) = room_taken (numeral n)
 store_line ws = Err kinds.Word
 
+-- the first line, by the order of its faults
 abbrev pub first_line : Option Word → List (List ℕ) → Result Reading ScriptKind
 first_line None ws = Err kinds.Word
 first_line (Some word.Store) ws = store_line ws
@@ -82,6 +86,7 @@ stood_before t w = false
 
 -- ---- header lines
 
+-- the number is within the limits of its header line
 abbrev pub number_fits : HeaderWord → ℕ → Bool
 number_fits header.Depth n = nat_le 1 n && nat_le n MOST_DEPTH
 number_fits header.Queue n = nat_le 1 n && nat_le n MOST_QUEUE
@@ -94,6 +99,7 @@ with_number t header.Queue n = record t { queue = Some n }
 with_number t header.Fail n = record t { fail = Some n }
 with_number t header.Cut n = record t { cut = Some n }
 
+-- none stands for a number that is spelled wrongly
 abbrev pub number_taken : HeaderSoFar → HeaderWord → Option ℕ → Result HeaderSoFar ScriptKind
 number_taken t w None = Err kinds.Word
 number_taken t w (Some n) = if number_fits w n then Ok (with_number t w n) else Err kinds.Number
@@ -112,12 +118,14 @@ header_taken r (Err kind) = Err kind
 abbrev pub with_put : Reading → Put → Reading
 with_put r p = record r { section = sections.Asking; ops = r.ops ++ ops.Put p ∷ []; puts = r.puts + 1; calls = r.calls + 2 }
 
+-- the log has a block for it, and its two calls keep the limit on calls
 abbrev pub put_fits : Reading → Bool
 put_fits r = nat_lt r.puts r.room && nat_le (r.calls + 2) MOST_CALLS
 
 abbrev pub put_added : Reading → Put → Result Reading ScriptKind
 put_added r p = if put_fits r then Ok (with_put r p) else Err kinds.Number
 
+-- a key and a value stand behind `put`
 abbrev pub put_line : Reading → List (List ℕ) → Result Reading ScriptKind
 put_line r (k ∷ v ∷ []) = if is_key k && is_value v then put_added r (record { key = k; value = v }) else Err kinds.Word
 put_line r ws = Err kinds.Word
@@ -125,19 +133,23 @@ put_line r ws = Err kinds.Word
 abbrev pub with_flush : Reading → Reading
 with_flush r = record r { section = sections.Asking; ops = r.ops ++ ops.Flush ∷ []; calls = r.calls + 1 }
 
+-- nothing stands behind `flush`, which is one call
 abbrev pub flush_line : Reading → List (List ℕ) → Result Reading ScriptKind
 flush_line r [] = if nat_lt r.calls MOST_CALLS then Ok (with_flush r) else Err kinds.Number
 flush_line r ws = Err kinds.Word
 
 -- ---- events and attempts of recovery, as in a volume script with one thread
 
+-- nothing stands behind `events`
 abbrev pub events_line : Reading → List (List ℕ) → Result Reading ScriptKind
 events_line r [] = Ok (record r { section = sections.Events })
 events_line r ws = Err kinds.Word
 
+-- a thread that it names is there, and all events so far are within the limit
 abbrev pub event_fits : Reading → EventLine → Bool
 event_fits r l = session.names_thread 1 l.what && nat_le (r.expanded + session.weight 1 l) MOST_EVENTS
 
+-- one event line more, counted with its repeats
 abbrev pub with_event : Reading → EventLine → Reading
 with_event r l = record r { events = r.events ++ l ∷ []; expanded = r.expanded + session.weight 1 l }
 
@@ -148,9 +160,11 @@ abbrev pub event_taken : Reading → Result EventLine LineFault → Result Readi
 event_taken r (Err fault) = Err (session.kind_of fault)
 event_taken r (Ok l) = event_added r l
 
+-- one attempt of recovery more
 abbrev pub with_recover : Reading → List Steer → Reading
 with_recover r ss = record r { section = sections.Recovery; recovers = r.recovers ++ ss ∷ [] }
 
+-- there are at most 100 attempts of recovery
 abbrev pub recover_added : Reading → List Steer → Result Reading ScriptKind
 recover_added r ss = if nat_lt (length r.recovers) MOST_RECOVERS then Ok (with_recover r ss) else Err kinds.Number
 
@@ -181,6 +195,7 @@ later_line r (Some w) ws =
 
 -- ---- all lines
 
+-- the line with `events` was read
 abbrev pub is_behind_events : Section → Bool
 is_behind_events sections.Header = false
 is_behind_events sections.Asking = false
@@ -201,6 +216,7 @@ read_one reading l = read_words reading (words_of l)
 abbrev pub read_line : ℕ → Option Reading → List ℕ → Result (Option Reading) (ℕ × ScriptKind)
 read_line n reading l = line_read read_one n reading l
 
+-- what the header lines said, with the defaults of those that were not there
 abbrev pub header_of : HeaderSoFar → StoreHeader
 header_of t = record { depth = unwrap_or t.depth DEFAULT_DEPTH; queue = unwrap_or t.queue DEFAULT_QUEUE; fail = t.fail; cut = t.cut }
 
@@ -212,6 +228,7 @@ abbrev pub ended_in : ℕ → Reading → Bool → Result StoreScript (ℕ × Sc
 ended_in n r false = Err (n, kinds.Order)
 ended_in n r true = Ok (script_read r)
 
+-- where nothing was read, the line after the last one is at fault
 abbrev pub ended : ℕ → Option Reading → Result StoreScript (ℕ × ScriptKind)
 ended n None = Err (n, kinds.Order)
 ended n (Some r) = ended_in n r (is_behind_events r.section)

@@ -15,6 +15,7 @@ use Rattle.store_grammar.specs.declared.script.StoreScript.{StoreScript}
 abbrev pub session_header : StoreHeader → SessionHeader
 session_header h = record { depth = h.depth; queue = h.queue; limit = DEFAULT_LIMIT; fail = h.fail; cut = h.cut; seed = DEFAULT_SEED; elevator = false; flash = None }
 
+-- the calls that a store makes of what the script asks of it
 abbrev pub script_calls : StoreScript → List Call
 script_calls s = calls_of s.room s.ops
 

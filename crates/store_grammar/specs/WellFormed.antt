@@ -13,6 +13,7 @@ use Rattle.store_grammar.specs.declared.limits.TheConstants.{MOST_STORE}
 use Rattle.store_grammar.specs.declared.script.StoreHeader.{StoreHeader}
 use Rattle.store_grammar.specs.declared.script.StoreScript.{StoreScript}
 
+-- the numbers of the header lines are within their limits
 pub record IsHeader (h : StoreHeader) : Type 0 where
   pub some_depth : 1 ≤ h.depth
   pub depth : h.depth ≤ MOST_DEPTH
@@ -22,6 +23,7 @@ pub record IsHeader (h : StoreHeader) : Type 0 where
   pub most_fail : (n : ℕ) → h.fail ≡ Some n → n ≤ MOST_TRANSFERS
   pub cut : (n : ℕ) → h.cut ≡ Some n → n ≤ MOST_STEPS
 
+-- a script whose log has room for its puts, with numbers, calls and events within their limits
 pub record IsWellFormed (s : StoreScript) : Type 0 where
   pub some_room : 1 ≤ s.room
   pub room : s.room ≤ MOST_STORE

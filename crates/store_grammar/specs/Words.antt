@@ -18,6 +18,7 @@ header_word w =
     else if bytes_eq w (codes "cut") then Some header.Cut
     else None
 
+-- words of the first line, of puts, and those that begin parts of a script
 abbrev pub part_word : List ℕ → Option Word
 part_word w =
     if bytes_eq w (codes "store") then Some word.Store
@@ -30,6 +31,7 @@ part_word w =
 abbrev pub is_flush : Bool → List ℕ → Bool
 is_flush in_events w = not in_events && bytes_eq w (codes "flush")
 
+-- words of this kind of script that are no event
 abbrev pub own_word : Bool → List ℕ → Option Word
 own_word in_events w = option_or (option_map word.Header (header_word w)) (if is_flush in_events w then Some word.Flush else part_word w)
 
@@ -45,6 +47,7 @@ is_header_elsewhere w =
 abbrev pub is_elsewhere : List ℕ → Bool
 is_elsewhere w = is_header_elsewhere w || (is_some (first_word w) || is_some (call_word w))
 
+-- words that are known, but begin no line of this kind of script
 abbrev pub other_word : List ℕ → Option Word
 other_word w = if is_elsewhere w then Some word.Other else None
 
