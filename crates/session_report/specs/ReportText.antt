@@ -23,6 +23,7 @@ abbrev pub what_text : List (List Call) → List (List ℕ) → ℕ → ℕ → 
 what_text programs lines thread call Begin = []
 what_text programs lines thread call (End reply) = answer_line thread (line_at programs lines thread call) reply
 
+-- a line for each call that was answered, in order of the answers
 abbrev pub answers_text : List (List Call) → List (List ℕ) → List Entry → List ℕ
 answers_text programs lines [] = []
 answers_text programs lines (e ∷ es) = what_text programs lines e.thread e.call e.what ++ answers_text programs lines es

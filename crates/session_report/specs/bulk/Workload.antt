@@ -35,6 +35,7 @@ value_of word = word / 8192 % 256
 unfoldable pub path_of : ℕ → List ℕ
 path_of word = codes "/f" ++ decimal (file_of word)
 
+-- a call of one of eight kinds, two of which are writes, for the file that the word says
 abbrev pub call_of_kind : ℕ → ℕ → Call
 call_of_kind kind word =
     if kind == 0 then calls.Create (path_of word)
@@ -62,6 +63,7 @@ abbrev pub words_for : ℕ → ℕ → List ℕ → List ℕ
 words_for thread place [] = []
 words_for thread place (w ∷ ws) = if 1 + place % 4 == thread then w ∷ words_for thread (place + 1) ws else words_for thread (place + 1) ws
 
+-- the calls of a thread, counted from 1
 abbrev pub thread_calls : List ℕ → ℕ → List Call
 thread_calls words thread = map word_call (words_for thread 0 words)
 
@@ -79,6 +81,7 @@ call_line c = join_with_byte 32 (call_words c)
 abbrev pub bulk_header : SessionHeader
 bulk_header = header_of (record none_told { limit = Some 200000 })
 
+-- the script of a number, n, whose words are these
 abbrev pub script_of : ℕ → List ℕ → SessionScript
 script_of n words = record {
   inodes = 512;

@@ -20,6 +20,7 @@ cause_text word number = codes " waiting " ++ word ++ codes " " ++ decimal numbe
 unfoldable pub conflict_text : ℕ → ℕ → List ℕ
 conflict_text block transaction = cause_text (codes "conflict") block ++ codes " " ++ decimal transaction
 
+-- where the next call of a thread is, or what it waits for; nothing where it has not begun or there is none
 abbrev pub state_text : Stand → List ℕ
 state_text stands.Fresh = []
 state_text stands.Sending = codes " sending"

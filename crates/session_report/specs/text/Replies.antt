@@ -16,6 +16,7 @@ abbrev pub names_text : List (List ℕ) → List ℕ
 names_text [] = codes " -"
 names_text (name ∷ names) = spaced (name ∷ names)
 
+-- whether a node is a directory
 abbrev pub kind_text : Bool → List ℕ
 kind_text true = codes "dir"
 kind_text false = codes "file"
