@@ -13,9 +13,11 @@ use Rattle.wal_store.specs.Blocks.{decode}
 abbrev pub if_numbered : ℕ → ℕ × Put → Option Put
 if_numbered n x = if x.0 == n then Some x.1 else None
 
+-- the put that a block spells, where it has this number; else none
 abbrev pub put_numbered : ℕ → List ℕ → Option Put
 put_numbered n b = option_and_then (if_numbered n) (decode b)
 
+-- where the first block spells no put, those of later blocks do not count
 abbrev pub with_first : Option Put → List Put → List Put
 with_first None ps = []
 with_first (Some p) ps = p ∷ ps
@@ -26,6 +28,7 @@ abbrev pub puts_from : ℕ → List (List ℕ) → List Put
 puts_from i [] = []
 puts_from i (b ∷ bs) = with_first (put_numbered (i + 1) b) (puts_from (i + 1) bs)
 
+-- the puts that a log holds: those of its first blocks, as long as each spells the put of its place
 abbrev pub held_puts : List (List ℕ) → List Put
 held_puts blocks = puts_from 0 blocks
 
@@ -35,6 +38,7 @@ held_puts blocks = puts_from 0 blocks
 abbrev pub Pairs : Type 0
 Pairs = List (List ℕ × List ℕ)
 
+-- puts done one after the other: the last put of a key counts
 abbrev pub pairs_after : Pairs → List Put → Pairs
 pairs_after pairs [] = pairs
 pairs_after pairs (p ∷ ps) = pairs_after (put_name pairs p.key p.value) ps

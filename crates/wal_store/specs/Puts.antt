@@ -15,6 +15,7 @@ is_key t = is_text MOST_KEY t
 abbrev pub is_value : List ℕ → Bool
 is_value t = is_text MOST_VALUE t
 
+-- key and value have the lengths and characters that they may have
 pub record IsPut (p : Put) : Type 0 where
   pub key : is_key p.key ≡ true
   pub value : is_value p.value ≡ true

@@ -27,6 +27,7 @@ fills_from room j n = map (fill_call room) (range_with_len j n)
 abbrev pub fill_count : ℕ → ℕ
 fill_count room = (room + 63) / 64
 
+-- zeros in all of a log of so many blocks
 abbrev pub fills : ℕ → List Call
 fills room = fills_from room 0 (fill_count room)
 
@@ -42,6 +43,7 @@ abbrev pub next : ℕ → Op → ℕ
 next i (ops.Put p) = i + 1
 next i ops.Flush = i
 
+-- the calls of what is asked, where the next put is put number i, counted from 0
 abbrev pub calls_from : ℕ → List Op → List Call
 calls_from i [] = []
 calls_from i (x ∷ xs) = op_calls i x ++ calls_from (next i x) xs
