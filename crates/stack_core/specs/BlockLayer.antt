@@ -29,6 +29,7 @@ opened_queues capacity = record { next = 0; capacity = capacity; submission = []
 
 -- ---- submit
 
+-- the request goes into the submission queue as the last one; where none is left, nothing changes
 abbrev pub with_request : QueuesState → Option Request → QueuesState
 with_request s None = s
 with_request s (Some r) = record s { next = s.next + 1; submission = s.submission ++ r ∷ [] }
@@ -39,6 +40,7 @@ submitted requests s = if nat_lt (length s.submission) s.capacity then with_requ
 
 -- ---- accept
 
+-- the first request of the submission queue goes to the scheduler; where there is none, nothing changes
 abbrev pub accepted_first : {K : Type 0} → SchedSteps K → BlockLayer K → List Request → BlockLayer K
 accepted_first k r [] = r
 accepted_first k r (q ∷ qs) = record { queues = record r.queues { submission = qs }; sched = k.accepted r.sched q }
@@ -55,6 +57,7 @@ queued_or_kept s c =
     if nat_lt (length s.dispatched) s.capacity then record s { kept = None; dispatched = s.dispatched ++ c ∷ [] }
     else record s { kept = Some c }
 
+-- where there is no command, nothing changes
 abbrev pub queued_or_kept_option : QueuesState → Option Command → QueuesState
 queued_or_kept_option s None = s
 queued_or_kept_option s (Some c) = queued_or_kept s c
@@ -63,6 +66,7 @@ queued_or_kept_option s (Some c) = queued_or_kept s c
 abbrev pub layer_picked : {K : Type 0} → SchedSteps K → BlockLayer K → ℕ → BlockLayer K
 layer_picked k r pick = record { queues = queued_or_kept_option r.queues (k.command r.sched pick); sched = k.dispatched r.sched pick }
 
+-- the command that is kept is tried again; only where there is none, the scheduler sends out that of its pick
 abbrev pub dispatched_from : {K : Type 0} → SchedSteps K → BlockLayer K → ℕ → Option Command → BlockLayer K
 dispatched_from k r pick (Some c) = record { queues = queued_or_kept r.queues c; sched = r.sched }
 dispatched_from k r pick None = layer_picked k r pick

@@ -37,9 +37,11 @@ abbrev pub received_given : {K S : Type 0} → Machine S → RunState K S → Op
 received_given m r None = r
 received_given m r (Some g) = record { path = g.1; sched = r.sched; dev = m.received r.dev g.0 }
 
+-- request path and scheduler, with this device behind them
 abbrev pub on_device : {K S : Type 0} → PathState K → S → RunState K S
 on_device f dev = record { path = f.path; sched = f.sched; dev = dev }
 
+-- the run without its device
 abbrev pub before_device : {K S : Type 0} → RunState K S → PathState K
 before_device r = record { path = r.path; sched = r.sched }
 
@@ -60,6 +62,7 @@ times (suc n) f s = times n f (f s)
 abbrev pub happens_word : {K S : Type 0} → SchedSteps K → Machine S → List Request → RunState K S → EventWord → RunState K S
 happens_word k m requests r (One event) = happens k m requests r event
 
+-- the event of a line, as often as the line says
 abbrev pub happens_line : {K S : Type 0} → SchedSteps K → Machine S → List Request → RunState K S → EventLine → RunState K S
 happens_line k m requests r line = times line.count (λ s. happens_word k m requests s line.what) r
 

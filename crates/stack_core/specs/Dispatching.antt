@@ -4,6 +4,7 @@ use Rattle.order_model.specs.declared.command.Command.{Command}
 use Rattle.order_model.specs.declared.request.Request.{Request}
 use Rattle.stack_core.specs.BlockLayer.{QueuesState}
 
+-- the queue behind a scheduler, and the command that it has no room for
 pub record DispatchState : Type 0 where
   -- the most commands that the queue holds
   pub capacity : ℕ

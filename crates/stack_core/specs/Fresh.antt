@@ -21,6 +21,7 @@ pub record IsFresh (image : List (List ℕ)) (s : Seen) : Type 0 where
 abbrev pub setup_over : ℕ → List (List ℕ) → DeviceSetup
 setup_over depth image = record { depth = depth; limit = length image + 2; fail_at = None; bad_read = None; cut_at = None }
 
+-- a new model device with this setup
 abbrev pub device_over : ℕ → List (List ℕ) → DeviceState
 device_over depth image = opened image (setup_over depth image)
 
@@ -40,6 +41,7 @@ pub record FlogNumbers : Type 0 where
 abbrev pub flash_setup_over : ℕ → ℕ → List (List ℕ) → FlogSetup
 flash_setup_over depth segments image = record { depth = depth; limit = length image + 2; segments = segments; fail_at = None; cut_at = None }
 
+-- a new flash log with this setup
 abbrev pub flash_over : ℕ → ℕ → List (List ℕ) → FlogState
 flash_over depth segments image = flash.opened image (flash_setup_over depth segments image)
 

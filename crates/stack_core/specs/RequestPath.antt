@@ -25,6 +25,7 @@ pub record PathState (K : Type 0) : Type 0 where
 
 -- ---- the steps
 
+-- a `device` script gives its requests to the device; a `blocks` script has the block layer before it
 abbrev pub opened_as : Script → Form → RequestPath
 opened_as s (Device blocks) = Direct 0
 opened_as s (Blocks blocks) = Scheduled (opened_queues s.header.queue)
@@ -45,6 +46,7 @@ scheduled_count s = scheduled_as s s.kind
 abbrev pub opened_seen : Script → SchedSeen
 opened_seen s = record { limit = scheduled_count s; capacity = CAPACITY; accepted = []; waiting = []; blocked = false; sent_out = [] }
 
+-- an event of host or scheduler; those of the device change nothing here
 abbrev pub layer_stepped : {K : Type 0} → SchedSteps K → List Request → BlockLayer K → CoreEvent → BlockLayer K
 layer_stepped k requests r Submit = record { queues = submitted requests r.queues; sched = r.sched }
 layer_stepped k requests r Accept = layer_accepted k r
@@ -53,9 +55,11 @@ layer_stepped k requests r Receive = r
 layer_stepped k requests r (Transfer pick) = r
 layer_stepped k requests r (Persist pick) = r
 
+-- the request path through this block layer
 abbrev pub scheduled_run : {K : Type 0} → BlockLayer K → PathState K
 scheduled_run r = record { path = Scheduled r.queues; sched = r.sched }
 
+-- where there is no block layer, no event of host or scheduler changes anything
 abbrev pub stepped_as : {K : Type 0} → SchedSteps K → List Request → RequestPath → K → CoreEvent → PathState K
 stepped_as k requests (Direct next) sched event = record { path = Direct next; sched = sched }
 stepped_as k requests (Scheduled s) sched event = scheduled_run (layer_stepped k requests (record { queues = s; sched = sched }) event)
@@ -103,6 +107,7 @@ pub record IsScheduled (s : QueuesState) (sched : SchedSeen) (requests : List Re
   pub fitting : AreRequests (length d.base) requests
   pub limit : length requests ≤ d.limit
 
+-- what was submitted and accepted on this path is what the device took, or still comes to it
 abbrev pub PathFits : RequestPath → SchedSeen → List Request → Seen → Type 0
 PathFits (Direct next) sched requests d = IsDirect next requests d
 PathFits (Scheduled s) sched requests d = IsScheduled s sched requests d
