@@ -33,6 +33,7 @@ unfoldable pub slot_of_size : ℕ → Option Slot → List ℕ
 slot_of_size size None = zeros size
 slot_of_size size (Some s) = written little (field 2 0 s.inode ∷ []) (put_bytes 2 s.name (zeros size))
 
+-- a slot where names have this width, as its bytes; zeros where it is free
 abbrev pub slot_bytes : ℕ → Option Slot → List ℕ
 slot_bytes width s = slot_of_size (slot_size width) s
 
