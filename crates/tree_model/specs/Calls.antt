@@ -40,13 +40,16 @@ Row = Result Done Reply
 
 -- ---- refusals, one after the other
 
+-- where the test holds it is refused with this reply, and else the next step counts
 abbrev pub refuse_if : {A : Type 0} → Bool → Reply → Result A Reply → Result A Reply
 refuse_if test reply next = if test then Err reply else next
 
+-- the next step, unless one before it was refused
 abbrev pub and_then : {A B : Type 0} → Result A Reply → (A → Result B Reply) → Result B Reply
 and_then (Ok a) next = next a
 and_then (Err reply) next = Err reply
 
+-- what is there, or a refusal with this reply where there is none
 abbrev pub if_some : {A : Type 0} → Option A → Reply → Result A Reply
 if_some (Some a) reply = Ok a
 if_some None reply = Err reply
@@ -91,9 +94,11 @@ refused_walk not_directory = replies.NotDir
 refused_walk name_too_long = replies.NameTooLong
 refused_walk not_found = replies.NotFound
 
+-- the birth of the node that names lead to from the root, or the reply to a refused walk
 abbrev pub birth_at : Tree → List (List ℕ) → Result ℕ Reply
 birth_at tree names = elim (node_of_path tree names) as (λ _. Result ℕ Reply) [ Err refusal ↦ Err (refused_walk refusal) | Ok birth ↦ Ok birth ]
 
+-- a node with its birth, or not found where there is none
 abbrev pub found_at : ℕ → Option Node → Result Found Reply
 found_at birth node = and_then (if_some node replies.NotFound) (λ there. Ok (record { birth = birth; node = there }))
 
@@ -104,10 +109,12 @@ walk tree names = and_then (birth_at tree names) (λ birth. found_at birth (at_n
 abbrev pub walk_path : Tree → List ℕ → Result Found Reply
 walk_path tree path = and_then (names_in path) (walk tree)
 
+-- where a call wants a directory
 abbrev pub a_directory : Node → Result Directory Reply
 a_directory (nodes.Directory d) = Ok d
 a_directory other = Err replies.NotDir
 
+-- where a call wants a file; any other node is refused as a directory is
 abbrev pub a_file : Node → Result File Reply
 a_file (nodes.File f) = Ok f
 a_file other = Err replies.IsDir
@@ -117,6 +124,7 @@ abbrev pub all_but_last : List ℕ → List (List ℕ) → List (List ℕ)
 all_but_last name [] = []
 all_but_last name (next ∷ names) = name ∷ all_but_last next names
 
+-- the last of a first name and those after it
 abbrev pub last_name : List ℕ → List (List ℕ) → List ℕ
 last_name name [] = name
 last_name name (next ∷ names) = last_name next names
@@ -143,9 +151,11 @@ abbrev pub is_file : Option Node → Bool
 is_file (Some (nodes.File f)) = true
 is_file other = false
 
+-- the directory has an entry with the name of the place
 abbrev pub is_named : Place → Bool
 is_named p = is_some (at_name p.directory.names p.name)
 
+-- of a directory or a file
 abbrev pub most_links : ℕ
 most_links = MOST_LINKS
 
@@ -161,9 +171,11 @@ is_full d = needs_slot d && nat_le (most_slots d.width) d.slots
 abbrev pub slots_with : Directory → List ℕ → ℕ
 slots_with d name = if not (is_some (at_name d.names name)) && needs_slot d then d.slots + 1 else d.slots
 
+-- the name leads to this birth, and a slot more is taken where one is needed
 abbrev pub with_name : Directory → List ℕ → ℕ → Directory
 with_name d name birth = record { parent = d.parent; width = d.width; slots = slots_with d name; names = put_name d.names name birth }
 
+-- the name is gone, and its slot is still there
 abbrev pub without_name : Directory → List ℕ → Directory
 without_name d name = record { parent = d.parent; width = d.width; slots = d.slots; names = remove_entry (is_at (name_cmp name)) d.names }
 
@@ -187,9 +199,11 @@ lose_link tree birth f = if nat_le f.links 1 then without_number tree birth else
 
 -- ---- the rows of names
 
+-- an empty directory, which has the slots of `.` and `..`; the width of its names, and its parent's birth
 abbrev pub new_directory : ℕ → ℕ → Node
 new_directory width parent = nodes.Directory (record { parent = parent; width = width; slots = 2; names = [] })
 
+-- an empty file with one name
 abbrev pub new_file : Node
 new_file = nodes.File (record { size = 0; links = 1; blocks = [] })
 
@@ -254,6 +268,7 @@ pub record Move : Type 0 where
   pub to : Place
   pub target : Option Found
 
+-- the node to which the name of a place leads, if there is one
 abbrev pub target_at : Tree → Place → Option Found
 target_at tree p =
     elim (at_name p.directory.names p.name) as (λ _. Option Found) [
@@ -268,6 +283,7 @@ moves_directory m = is_directory (Some m.moved.node)
 abbrev pub meets_directory : Move → Bool
 meets_directory m = elim m.target as (λ _. Bool) [ None ↦ false | Some t ↦ is_directory (Some t.node) && not (t.birth == m.moved.birth) ]
 
+-- a file stands there, which may be the one that moves
 abbrev pub meets_file : Move → Bool
 meets_file m = elim m.target as (λ _. Bool) [ None ↦ false | Some t ↦ is_file (Some t.node) ]
 
@@ -327,6 +343,7 @@ rename tree path other =
 
 -- ---- the rows of bytes
 
+-- of a file, in bytes
 abbrev pub largest_size : ℕ
 largest_size = LARGEST_SIZE
 
@@ -346,6 +363,7 @@ patched index off bytes old =
 abbrev pub touched_blocks : ℕ → ℕ → List ℕ
 touched_blocks off len = if len == 0 then [] else range_with_len (off / 1024) ((off + len - 1) / 1024 - off / 1024 + 1)
 
+-- the mapped blocks after bytes from `off` on are written into these blocks; a hole among them is mapped
 abbrev pub written_blocks : ℕ → List ℕ → List ℕ → List (ℕ × List ℕ) → List (ℕ × List ℕ)
 written_blocks off bytes [] blocks = blocks
 written_blocks off bytes (index ∷ indices) blocks =
@@ -394,6 +412,7 @@ truncate tree path size =
 
 -- ---- the rows of calls that change nothing
 
+-- the byte at a place, counted from 0; a hole has zeros
 abbrev pub byte_at : File → ℕ → ℕ
 byte_at f at = slice_index (block_or_zeros (at_number f.blocks (at / 1024))) (at % 1024)
 
@@ -488,6 +507,7 @@ is_indirect index = nat_le 7 index && nat_lt index 519
 abbrev pub is_double_indirect : ℕ → Bool
 is_double_indirect index = nat_le 519 index
 
+-- the group of a block, counted from 0
 abbrev pub is_in_group : ℕ → ℕ → Bool
 is_in_group group index = is_double_indirect index && ((index - 519) / 512 == group)
 
@@ -507,6 +527,7 @@ file_zones indices =
     + one_if (list_any is_double_indirect indices)
     + mapped_groups indices
 
+-- the zones that a node uses; 0 where it is neither a directory nor a file
 abbrev pub node_zones : Node → ℕ
 node_zones (nodes.Directory d) = directory_zones d.width d.slots
 node_zones (nodes.File f) = file_zones (keys_of f.blocks)

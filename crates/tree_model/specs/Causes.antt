@@ -90,6 +90,7 @@ root_reply (calls.Unlink path) = Some replies.Invalid
 root_reply (calls.Rename path other) = Some replies.Invalid
 root_reply other = None
 
+-- why call `c`, with number `n`, may be refused with this reply
 pub data IsCause (room : Room) (tree : Tree) (n : ℕ) (c : Call) : Reply → Type 0 where
   -- a text is no path
   no_path : (path : List ℕ) → In path (paths_of c) → path_of path ≡ None → IsCause room tree n c replies.BadPath

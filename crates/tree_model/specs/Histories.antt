@@ -23,6 +23,7 @@ abbrev pub block_in : Option Node → ℕ → Option (List ℕ)
 block_in (Some (nodes.File f)) index = at_number f.blocks index
 block_in other index = None
 
+-- the bytes of a block of the file with this birth; None where it is not mapped, or there is no such file
 abbrev pub block_at : Tree → ℕ → ℕ → Option (List ℕ)
 block_at tree birth index = block_in (at_number tree birth) index
 
@@ -35,9 +36,11 @@ abbrev pub is_found_at : Result Found Reply → ℕ → Bool
 is_found_at (Err reply) birth = false
 is_found_at (Ok found) birth = found.birth == birth
 
+-- the path leads to the node with this birth
 abbrev pub leads_to : Tree → List ℕ → ℕ → Bool
 leads_to tree path birth = is_found_at (walk_path tree path) birth
 
+-- block `index` has one of `len` bytes from `off` on
 abbrev pub is_touched : ℕ → ℕ → ℕ → Bool
 is_touched off len index = list_any (λ i. i == index) (touched_blocks off len)
 
@@ -64,10 +67,12 @@ writes room tree n c birth index = is_ok (reply_of room tree n c) && touches tre
 abbrev pub Entry : Type 0
 Entry = Option Call
 
+-- only an entry with a call that is done changes the tree
 abbrev pub tree_after_entry : Room → Tree → ℕ → Option Entry → Tree
 tree_after_entry room tree n (Some (Some c)) = tree_after room tree n c
 tree_after_entry room tree n other = tree
 
+-- the entry, with number `n`, writes block `index` of the file with this birth
 abbrev pub entry_writes : Room → Tree → ℕ → Option Entry → ℕ → ℕ → Bool
 entry_writes room tree n (Some (Some c)) birth index = writes room tree n c birth index
 entry_writes room tree n other birth index = false

@@ -18,6 +18,7 @@ at_number entries k = lookup (is_at (nat_cmp k)) entries
 abbrev pub at_name : {X : Type 0} → List (List ℕ × X) → List ℕ → Option X
 at_name entries name = lookup (is_at (name_cmp name)) entries
 
+-- an entry that stands there is replaced
 abbrev pub put_number : {X : Type 0} → List (ℕ × X) → ℕ → X → List (ℕ × X)
 put_number entries k x = insert_entry nat_cmp entries k x
 

@@ -30,10 +30,12 @@ path_of text =
 
 -- ---- how paths are spelled
 
+-- a slash before each name
 abbrev pub slashed : List (List ℕ) → List ℕ
 slashed [] = []
 slashed (name ∷ names) = codes "/" ++ name ++ slashed names
 
+-- the text of a path with these names; one slash for the root
 abbrev pub spelled : List (List ℕ) → List ℕ
 spelled [] = codes "/"
 spelled (name ∷ names) = slashed (name ∷ names)

@@ -53,9 +53,11 @@ directory_line path = codes "dir " ++ path_text path ++ codes "\n"
 abbrev pub file_line : List ℕ → File → List ℕ
 file_line path f = codes "file " ++ path_text path ++ codes " size " ++ decimal f.size ++ codes " links " ++ decimal f.links ++ codes "\n"
 
+-- a file's line, and one for each mapped block below its size
 abbrev pub file_lines : List ℕ → File → List ℕ
 file_lines path f = file_line path f ++ blocks_text f.size f.blocks
 
+-- the last octal digit of a number, as a character
 abbrev pub octal_digit : ℕ → ℕ
 octal_digit n = n % 8 + 48
 
@@ -65,6 +67,7 @@ mode_text mode =
     octal_digit (mode / 32768) ∷ octal_digit (mode / 4096) ∷ octal_digit (mode / 512)
     ∷ octal_digit (mode / 64) ∷ octal_digit (mode / 8) ∷ octal_digit mode ∷ []
 
+-- a node that is neither a directory nor a file
 abbrev pub other_line : List ℕ → ℕ → List ℕ
 other_line path mode = codes "other " ++ path_text path ++ codes " mode " ++ mode_text mode ++ codes "\n"
 
@@ -79,12 +82,15 @@ pub record Showing : Type 0 where
   pub left : List (ℕ × Node)
   pub firsts : List (ℕ × List ℕ)
 
+-- where a file was met first; empty where no path was kept
 abbrev pub first_path : Showing → ℕ → List ℕ
 first_path s birth = option_map_or path_text (at_number s.firsts birth) []
 
+-- a directory was met, and its path is not kept
 abbrev pub directory_met : Showing → Named → Showing
 directory_met s e = record { left = without_number s.left e.birth; firsts = s.firsts }
 
+-- a file was met, first at this path
 abbrev pub file_met : Showing → Named → Showing
 file_met s e = record { left = without_number s.left e.birth; firsts = put_number s.firsts e.birth e.path }
 
@@ -105,6 +111,7 @@ abbrev pub shown : ℕ → Showing → List Named → List ℕ
 shown zero = shown_through (λ s rest. [])
 shown (suc n) = shown_through (shown n)
 
+-- the root, which is shown first
 abbrev pub root : Named
 root = record { path = []; birth = 0 }
 

@@ -19,6 +19,7 @@ step_in d name =
     if nat_lt d.width (length name) then Err name_too_long
     else elim (at_name d.names name) as (λ _. Result ℕ Refusal) [ None ↦ Err not_found | Some birth ↦ Ok birth ]
 
+-- so, at a node: refused where there is none, or no directory
 abbrev pub step_at : Option Node → List ℕ → Result ℕ Refusal
 step_at (Some (nodes.Directory d)) name = step_in d name
 step_at other name = Err not_directory
@@ -54,6 +55,7 @@ SameMetadata (nodes.File f) (nodes.File h) = (f.size ≡ h.size) × (f.links ≡
 SameMetadata (nodes.Other mode) (nodes.Other other) = mode ≡ other
 SameMetadata n m = ⊥
 
+-- both nodes are there, and have the same metadata
 abbrev pub SameMetadataAt : Option Node → Option Node → Type 0
 SameMetadataAt (Some n) (Some m) = SameMetadata n m
 SameMetadataAt n m = ⊥
