@@ -10,6 +10,7 @@ room [] = 0
 room (None ∷ slots) = 0
 room (Some s ∷ slots) = suc (room slots)
 
+-- the slot stands at this place; past the last one it is one more at the end
 unfoldable pub with_slot : List (Option Slot) → ℕ → Slot → List (Option Slot)
 with_slot slots at slot = if nat_lt at (length slots) then slice_set slots at (Some slot) else slots ++ Some slot ∷ []
 
@@ -54,6 +55,7 @@ abbrev pub led_to : List (Option Slot) → ℕ → ℕ → Option Slot → List 
 led_to slots at inode None = slots
 led_to slots at inode (Some s) = slice_set slots at (Some (record { inode = inode; name = s.name }))
 
+-- so, for what stands at the place
 abbrev pub slots_led : List (Option Slot) → ℕ → ℕ → List (Option Slot)
 slots_led slots at inode = led_to slots at inode (slot_at slots at)
 

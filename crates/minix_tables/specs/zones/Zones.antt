@@ -31,10 +31,12 @@ abbrev pub is_quarantined : ZoneState → Bool
 is_quarantined (states.Quarantined tx) = true
 is_quarantined other = false
 
+-- in quarantine for this transaction
 abbrev pub is_quarantined_for : ℕ → ZoneState → Bool
 is_quarantined_for tx (states.Quarantined freed_by) = freed_by == tx
 is_quarantined_for tx other = false
 
+-- in quarantine for this transaction or an earlier one
 abbrev pub is_quarantined_to : ℕ → ZoneState → Bool
 is_quarantined_to tx (states.Quarantined freed_by) = nat_le freed_by tx
 is_quarantined_to tx other = false
@@ -56,6 +58,7 @@ least_free (z ∷ zs) = if is_free z then Some 0 else option_map suc (least_free
 abbrev pub NoneFreeBelow : List ZoneState → ℕ → Type 0
 NoneFreeBelow zs low = (k : ℕ) → k < low → slice_get zs k ≢ Some states.Free
 
+-- the number of the lowest free zone; None where there is none
 abbrev pub lowest_free : Zones → Option ℕ
 lowest_free m = option_map (λ at. m.first + at) (least_free m.states)
 

@@ -3,6 +3,7 @@ use Rattle.std.specs.Prelude.{◌≡◌, ℕ, ◌+◌, ◌^◌, ◌<◌, ◌≤�
 use Rattle.minix_tables.specs.declared.zones.zone_state.ZoneState.{ZoneState}
 use Rattle.minix_tables.specs.zones.Zones.{NoneFreeBelow, is_free, is_quarantined}
 
+-- `first` is the number of the first zone of data, and `low`, the hint, a place counted from it
 pub record IsZoneMap (first : ℕ) (zs : List ZoneState) (low free quarantined : ℕ) : Type 0 where
   pub none_below : NoneFreeBelow zs low
   pub within : low ≤ length zs
