@@ -11,6 +11,7 @@ use Rattle.volume_ops.specs.ZonePlaces.{ZonePlace, zone_in}
 
 -- ---- what inodes are, have and name
 
+-- of an inode, by its number
 abbrev pub IsDirectory : Geometry → List (List ℕ) → ℕ → Type 0
 IsDirectory g blocks inode = is_directory (inode_at g blocks inode).mode ≡ true
 

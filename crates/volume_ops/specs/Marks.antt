@@ -5,6 +5,7 @@ use Rattle.std.specs.Prelude.{ℕ, ◌+◌, Bool, true, false, if◌then◌else�
 abbrev pub no_marks : ℕ → List Bool
 no_marks n = replicate n false
 
+-- this number was met; false for one past the marks
 abbrev pub is_marked : List Bool → ℕ → Bool
 is_marked marks k = slice_index_or marks k false
 

@@ -34,6 +34,7 @@ note_directory zone slot s =
 abbrev pub note_other : Slot → SlotScan → SlotScan
 note_other slot s = record { named = s.named; names = put_name s.names slot.name (birth_of slot.inode) }
 
+-- a name of a slot in `zone`, of a directory or of another thing
 abbrev pub note_name : ℕ → Slot → SlotScan → Bool → Result SlotScan Fault
 note_name zone slot s directory = if directory then note_directory zone slot s else Ok (note_other slot s)
 
@@ -44,6 +45,7 @@ scan_entry g zone slot s =
     else Read (table_block g slot.inode)
     (λ body. Ret (note_name zone slot s (is_directory (inode_in_block slot.inode body).mode)))
 
+-- a free slot names nothing, and neither do `.` and `..`
 abbrev pub scan_used : Geometry → ℕ → SlotScan → Option Slot → Reads (Result SlotScan Fault)
 scan_used g zone s None = Ret (Ok s)
 scan_used g zone s (Some slot) = if is_dot slot.name then Ret (Ok s) else scan_entry g zone slot s

@@ -46,18 +46,21 @@ pub record HasName (g : Geometry) (blocks : List (List ℕ)) (i : Inode) (name :
   pub no_dot : is_dot name ≡ false
   pub birth_is : birth_of slot.inode ≡ birth
 
+-- the inode is that of this directory; of its parent nothing is said
 pub record IsDirectoryOf (g : Geometry) (blocks : List (List ℕ)) (i : Inode) (d : Directory) : Type 0 where
   pub kind : is_directory i.mode ≡ true
   pub width : d.width ≡ g.width
   pub slots : d.slots ≡ i.size / slot_size g.width
   pub names : (name : List ℕ) (birth : ℕ) → (at_name d.names name ≡ Some birth) ↔ HasName g blocks i name birth
 
+-- the inode is that of this file, with the bytes of its mapped blocks
 pub record IsFileOf (blocks : List (List ℕ)) (i : Inode) (f : File) : Type 0 where
   pub kind : is_file i.mode ≡ true
   pub size : f.size ≡ i.size
   pub links : f.links ≡ i.links
   pub bodies : (index : ℕ) → at_number f.blocks index ≡ block_behind blocks i index
 
+-- the inode is neither a directory nor a file, and has this mode
 pub record IsOtherOf (i : Inode) (mode : ℕ) : Type 0 where
   pub no_directory : is_directory i.mode ≡ false
   pub no_file : is_file i.mode ≡ false

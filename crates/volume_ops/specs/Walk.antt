@@ -42,6 +42,7 @@ pub record Visit : Type 0 where
 abbrev pub pending_in : ℕ → List (List ℕ × ℕ) → List Pending
 pending_in birth names = map (λ e. record { inode = inode_of_birth e.1; parent = birth }) names
 
+-- the inode is met, with the marks of zones and of named directories after it, and its node comes last
 abbrev pub met_node : WalkState → ℕ → List Bool → List Bool → Found → WalkState
 met_node w inode zones named found = record {
   zones = zones;
@@ -112,6 +113,7 @@ at_start g = record {
   nodes = [];
 }
 
+-- inode 1; the root counts as its own parent
 abbrev pub root : Pending
 root = record { inode = 1; parent = 0 }
 

@@ -21,6 +21,7 @@ pub record ZoneScan : Type 0 where
 abbrev pub is_bad_zone : Geometry → ℕ → List Bool → Bool
 is_bad_zone g zone met = nat_lt zone g.first || (nat_le g.zones zone || is_marked met zone)
 
+-- the marks after this zone was met, or the fault, told at the block that holds its number
 abbrev pub take_zone : Geometry → ℕ → ℕ → List Bool → Result (List Bool) Fault
 take_zone g pointer_block zone met = if is_bad_zone g zone met then Err (BadZone, pointer_block) else Ok (marked met zone)
 
