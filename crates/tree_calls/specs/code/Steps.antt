@@ -45,16 +45,20 @@ Decides tree n (Ok step) row = row ≡ done_by tree n step
 
 -- ---- the nodes of a step are those of the tree
 
+-- the place's directory stands in the tree, at the birth of the parent
 abbrev pub HasPlace : Tree → NamePlace → Type 0
 HasPlace tree p = at_number tree p.parent ≡ Some (nodes.Directory p.directory.now)
 
+-- the file stands in the tree, at its birth
 abbrev pub HasFile : Tree → Opened → Type 0
 HasFile tree o = at_number tree o.birth ≡ Some (nodes.File o.file.now)
 
+-- so does what stands at the new place of a rename, if anything does
 abbrev pub HasTarget : Tree → Option FoundNode → Type 0
 HasTarget tree None = Unit {0}
 HasTarget tree (Some t) = at_number tree t.birth ≡ Some t.node.now
 
+-- the nodes that a step changes stand in the tree, and no size or count of links would be too large
 abbrev pub HasNodes : Tree → Step → Type 0
 HasNodes tree (steps.MakeDirectory p) = HasPlace tree p
 HasNodes tree (steps.MakeFile p) = HasPlace tree p
@@ -74,6 +78,7 @@ takes_inode (steps.MakeDirectory p) = true
 takes_inode (steps.MakeFile p) = true
 takes_inode other = false
 
+-- the tree may be another one after the step
 abbrev pub changes : Step → Bool
 changes (steps.Read f off len) = false
 changes (steps.List d) = false
