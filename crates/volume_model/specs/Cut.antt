@@ -36,9 +36,11 @@ abbrev pub cut_told : List (List ℕ) → (Place → ℕ) → (Place → Bool) �
 cut_told blocks own keeps [] = []
 cut_told blocks own keeps (c ∷ cs) = if keeps c.0 && has_numbers blocks (own c.0) c.1 then own c.0 ∷ cut_told blocks own keeps cs else cut_told blocks own keeps cs
 
+-- the nine of an inode, with 0 for each place that goes
 abbrev pub cut_zones : (Place → Bool) → List ℕ → List ℕ
 cut_zones keeps zones = map (λ k. if keeps (place_at (slot k)) then slice_index zones k else 0) (range_with_len 0 9)
 
+-- the blocks from this index on go, and so do the zones of numbers that `keeps` does not hold; the size stays
 unfoldable pub cut_to : Geometry → (Place → Bool) → OpenInode → ℕ → OpenInode
 cut_to g keeps s from = record {
   blocks = edited_all g s.blocks (cut_edits (own_of s) keeps (cuts keeps from));

@@ -47,5 +47,6 @@ abbrev pub edited_all : Geometry → List (List ℕ) → List Edit → List (Lis
 edited_all g blocks [] = blocks
 edited_all g blocks (e ∷ es) = edited_all g (edited g blocks e) es
 
+-- one block for each write, in order
 abbrev pub touched_by_all : Geometry → List Edit → List ℕ
 touched_by_all g es = map (touched_by g) es

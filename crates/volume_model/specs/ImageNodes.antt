@@ -35,6 +35,7 @@ part_found g blocks i (found.Directory d) = parts.Directory (record { parent = d
 part_found g blocks i (found.File f) = parts.File f.zones
 part_found g blocks i (found.Other mode) = parts.File []
 
+-- the node with this birth, as the blocks of an image have it
 abbrev pub placed_in : Geometry → List (List ℕ) → ℕ → Node → Placed
 placed_in g blocks birth node = record {
   number = inode_of_birth birth;

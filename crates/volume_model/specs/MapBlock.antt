@@ -12,6 +12,7 @@ pub record OpenInode : Type 0 where
   pub blocks : List (List ℕ)
   pub inode : Inode
 
+-- the zone at a place, 0 for none, by the inode that is not written yet
 abbrev pub own_of : OpenInode → Place → ℕ
 own_of s x = zone_in s.blocks s.inode x
 
@@ -24,14 +25,17 @@ entry_edits s (slot k) z = []
 entry_edits s (entry h k) z = put_entry (own_of s h) k z ∷ []
 entry_edits s nowhere z = []
 
+-- so, where that is one of the nine of the inode; else the inode stays
 abbrev pub slot_written : Inode → Home → ℕ → Inode
 slot_written i (slot k) z = with_zones i (slice_set i.zones k z)
 slot_written i (entry h k) z = i
 slot_written i nowhere z = i
 
+-- what is written where place `x` gets zone `z`: these bytes, and its number unless the inode has it
 abbrev pub gets_edits : OpenInode → Place → ℕ → List ℕ → List Edit
 gets_edits s x z body = put_body z body ∷ entry_edits s (home x) z
 
+-- place `x` gets zone `z`, with these bytes
 abbrev pub get_zone : Geometry → OpenInode → Place → ℕ → List ℕ → OpenInode
 get_zone g s x z body = record { blocks = edited_all g s.blocks (gets_edits s x z body); inode = slot_written s.inode (home x) z }
 
@@ -41,6 +45,7 @@ pub record TakenZones : Type 0 where
   pub outer : ℕ
   pub second : ℕ
 
+-- the one that was taken for a place
 abbrev pub taken_at : TakenZones → Place → ℕ
 taken_at t (block i) = t.data_zone
 taken_at t indirect = t.outer
@@ -54,6 +59,7 @@ first_body content indirect = zeros 1024
 first_body content double = zeros 1024
 first_body content (inner k) = zeros 1024
 
+-- a place without a zone gets the one that was taken for it; one that has a zone stays
 abbrev pub get_step : Geometry → TakenZones → List ℕ → OpenInode → Place → OpenInode
 get_step g t content s x = if nat_eq (own_of s x) 0 then get_zone g s x (taken_at t x) (first_body content x) else s
 
@@ -61,6 +67,7 @@ abbrev pub get_steps : Geometry → TakenZones → List ℕ → OpenInode → Li
 get_steps g t content s [] = s
 get_steps g t content s (x ∷ xs) = get_steps g t content (get_step g t content s x) xs
 
+-- block `index` has a zone after it, with these bytes where it had none
 unfoldable pub map_block : Geometry → TakenZones → List ℕ → OpenInode → ℕ → OpenInode
 map_block g t content s index = get_steps g t content s (way index)
 

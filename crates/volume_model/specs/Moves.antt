@@ -48,11 +48,13 @@ pub record MayAdd (g : Geometry) (blocks : List (List ℕ)) (nodes : List (ℕ �
   pub no_zone : (x : Place) → zone_in (edited g blocks (put_inode q.number q.inode)) q.inode x ≡ 0
   pub no_directory : (d : DirectoryPart) → q.part ≡ parts.Directory d → ⊥
 
+-- a node comes with birth `n`, and its inode is written to the table
 abbrev pub added : Geometry → Contents → ℕ → Placed → Contents
 added g v n q = record { blocks = edited g v.blocks (put_inode q.number q.inode); nodes = put_number v.nodes n q }
 
 -- ---- a node goes
 
+-- the node with birth `n` goes, and its inode becomes zeros
 abbrev pub node_removed : Geometry → Contents → ℕ → Placed → Contents
 node_removed g v n p = record { blocks = edited g v.blocks (put_inode p.number zero_inode); nodes = remove_entry (is_at (nat_cmp n)) v.nodes }
 
@@ -90,6 +92,7 @@ inode_told g number before after = if same_inode after before then [] else table
 abbrev pub inode_back : Geometry → List (List ℕ) → Placed → Inode → List (List ℕ)
 inode_back g blocks p i = inode_written g blocks p.number p.inode i
 
+-- the block of the table that this touches; none where no field changed
 abbrev pub back_told : Geometry → Placed → Inode → List ℕ
 back_told g p i = inode_told g p.number p.inode i
 
@@ -102,6 +105,7 @@ closed g v n p u part = record {
 
 -- ---- a slot of a directory changes, with its name
 
+-- the names but for this one
 abbrev pub without : {X : Type 0} → List (List ℕ × X) → List ℕ → List (List ℕ × X)
 without names name = remove_entry (is_at (name_cmp name)) names
 
@@ -121,6 +125,7 @@ slot_put g v n p k o next =
 abbrev pub with_name : DirectoryPart → Slot → ℕ → DirectoryPart
 with_name d s birth = record { parent = d.parent; width = d.width; names = put_name d.names s.name birth; slots = with_slot d.slots (room d.slots) s }
 
+-- slot `s` comes into directory `n`, and its name leads to this birth
 abbrev pub name_added : Geometry → Contents → ℕ → Placed → DirectoryPart → Slot → ℕ → Contents
 name_added g v n p d s birth = slot_put g v n p (room d.slots) (Some s) (with_name d s birth)
 
@@ -128,6 +133,7 @@ name_added g v n p d s birth = slot_put g v n p (room d.slots) (Some s) (with_na
 abbrev pub without_name : DirectoryPart → ℕ → Slot → DirectoryPart
 without_name d k s = record { parent = d.parent; width = d.width; names = without d.names s.name; slots = slice_set d.slots k None }
 
+-- slot `k` of directory `n`, in which `s` stands, becomes free
 abbrev pub name_removed : Geometry → Contents → ℕ → Placed → DirectoryPart → ℕ → Slot → Contents
 name_removed g v n p d k s = slot_put g v n p k None (without_name d k s)
 
@@ -142,9 +148,11 @@ pub record AreFree (g : Geometry) (blocks : List (List ℕ)) (nodes : List (ℕ 
   pub free : (a : ℕ) (r : Placed) (x y : Place) → at_number nodes a ≡ Some r → In x xs → zone_in blocks i x ≡ 0 → zone_in blocks r.inode y ≢ taken_at t x
   pub differ : (x y : Place) → In x xs → In y xs → zone_in blocks i x ≡ 0 → zone_in blocks i y ≡ 0 → taken_at t x ≡ taken_at t y → x ≡ y
 
+-- block `index` of file `n` gets the zones that were taken for it, and these bytes
 abbrev pub file_mapped : Geometry → Contents → ℕ → Placed → List Mapped → TakenZones → List ℕ → ℕ → Contents
 file_mapped g v n p zones t content index = closed g v n p (map_block g t content (opened v p) index) (parts.File (with_mapped zones index t.data_zone))
 
+-- so does one of directory `n`, which is `d` after it
 abbrev pub directory_mapped : Geometry → Contents → ℕ → Placed → DirectoryPart → TakenZones → List ℕ → ℕ → Contents
 directory_mapped g v n p d t content index = closed g v n p (map_block g t content (opened v p) index) (parts.Directory d)
 
@@ -161,6 +169,7 @@ file_mapped_touches g v n p t content index = record {
 
 -- ---- its blocks from an index on go
 
+-- the blocks of file `n` from index `from` on go, and of the zones of numbers those that `keeps` does not hold
 abbrev pub file_cut : Geometry → Contents → ℕ → Placed → List Mapped → (Place → Bool) → ℕ → Contents
 file_cut g v n p zones keeps from = closed g v n p (cut_to g keeps (opened v p) from) (parts.File (filter (λ m. nat_lt m.index from) zones))
 
@@ -171,6 +180,7 @@ numbers_gone v p keeps = map (λ x. zone_in v.blocks p.inode x) (filter (λ x. n
 abbrev pub page_of : ℕ → Mapped → Page
 page_of n m = record { birth = n; index = m.index; zone = m.zone }
 
+-- what is told of it: all that goes is freed, zones of numbers are revoked, and blocks of the file dropped
 abbrev pub file_cut_touches : Geometry → Contents → ℕ → Placed → List Mapped → (Place → Bool) → ℕ → Touched
 file_cut_touches g v n p zones keeps from = record {
   blocks = cut_told v.blocks (λ x. zone_in v.blocks p.inode x) keeps (cuts keeps from) ++ back_told g p (cut_to g keeps (opened v p) from).inode;

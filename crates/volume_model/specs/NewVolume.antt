@@ -13,6 +13,7 @@ use Rattle.volume_model.specs.declared.placed.Part.TheVariants as parts
 use Rattle.volume_model.specs.Edits.{put_inode, put_slot, edited_all}
 use Rattle.volume_model.specs.Touched.{Contents}
 
+-- `.` and `..` of the root, which both lead to inode 1
 abbrev pub dot_slot : Slot
 dot_slot = record { inode = 1; name = codes "." }
 
@@ -23,6 +24,7 @@ dots_slot = record { inode = 1; name = codes ".." }
 abbrev pub root_inode : Geometry → Inode
 root_inode g = new_directory_inode g.width g.first
 
+-- the root, which is its own parent
 abbrev pub root_placed : Geometry → Placed
 root_placed g = record {
   number = 1;
@@ -34,6 +36,7 @@ root_placed g = record {
 abbrev pub new_blocks : Geometry → List (List ℕ)
 new_blocks g = edited_all g (replicate g.zones (filled 0)) (put_inode 1 (root_inode g) ∷ put_slot g.first 0 (Some dot_slot) ∷ put_slot g.first 1 (Some dots_slot) ∷ [])
 
+-- the superblock and both maps are still zeros here
 abbrev pub new_volume : Geometry → Contents
 new_volume g = record { blocks = new_blocks g; nodes = (0, root_placed g) ∷ [] }
 

@@ -54,6 +54,7 @@ abbrev pub slot_or_free : Result (Option Slot) LayoutFault → Option Slot
 slot_or_free (Ok s) = s
 slot_or_free (Err fault) = None
 
+-- slot `k` of a directory; one in a hole counts as free too
 abbrev pub slot_in : Geometry → List (List ℕ) → Inode → ℕ → Option Slot
 slot_in g blocks i k = slot_or_free (slot_behind g blocks i k)
 

@@ -16,6 +16,8 @@ pub record Page : Type 0 where
   pub index : ℕ
   pub zone : ℕ
 
+-- metadata blocks that are written; zones that go, and those of them that were metadata; blocks of files that are
+-- written, and those that go; births of nodes that come, go, or get another size, zones or slots
 pub record Touched : Type 0 where
   pub blocks : List ℕ
   pub freed : List ℕ

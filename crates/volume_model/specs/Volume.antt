@@ -55,6 +55,7 @@ pub record HasSlot (g : Geometry) (blocks : List (List ℕ)) (i : Inode) (k : �
   pub mapped : zone_behind blocks i (k / slots_a_block g.width) ≢ 0
   pub stands : slot_of g.width (record_at (slot_size g.width) (k % slots_a_block g.width) (disk_of blocks (zone_behind blocks i (k / slots_a_block g.width)))) ≡ Ok s
 
+-- a directory's list has its slots, each as it stands in the blocks
 pub record IsDirectoryPart (g : Geometry) (blocks : List (List ℕ)) (i : Inode) (d : DirectoryPart) : Type 0 where
   pub kind : is_directory i.mode ≡ true
   pub width : d.width ≡ g.width

@@ -13,6 +13,7 @@ pub data Home : Type 0 where
   entry : Place → ℕ → Home
   nowhere : Home
 
+-- nowhere is for blocks past the largest size, and for inner zones past the last of 512
 abbrev pub home : Place → Home
 home (block index) =
     if nat_lt index 7 then slot index
@@ -23,9 +24,11 @@ home indirect = slot 7
 home double = slot 8
 home (inner k) = if nat_lt k 512 then entry double k else nowhere
 
+-- number `at` of a zone of numbers, counted from 0
 abbrev pub entry_of : List (List ℕ) → ℕ → ℕ → ℕ
 entry_of blocks zone at = zone_number (disk_of blocks zone) at
 
+-- the number that stands there; 0 for nowhere
 abbrev pub at_home : List (List ℕ) → Inode → Home → ℕ
 at_home blocks i (slot k) = slice_index i.zones k
 at_home blocks i (entry h k) = entry_behind (entry_of blocks) (zone_in blocks i h) k
@@ -48,11 +51,13 @@ way index =
     else (if nat_lt index 262663 then double ∷ inner ((index - 519) / 512) ∷ block index ∷ []
     else []))
 
+-- the place lies on the way to the block with this index
 abbrev pub OnWay : Place → ℕ → Type 0
 OnWay (block i) index = (i ≡ index) × (index < 262663)
 OnWay indirect index = (7 ≤ index) × (index < 519)
 OnWay double index = (519 ≤ index) × (index < 262663)
 OnWay (inner j) index = (519 ≤ index) × (index < 262663) × ((index - 519) / 512 ≡ j)
 
+-- each place that has a zone, 0 being none, lies on the way to a mapped block
 abbrev pub IsJust : (Place → ℕ) → Type 0
 IsJust own = (x : Place) → own x ≢ 0 → (index : ℕ) × (own (block index) ≢ 0) × OnWay x index
