@@ -12,13 +12,16 @@ use Rattle.volume_steps.specs.Steps.{at_node, set_links, resize, make_file, make
 
 -- ---- where a path leads
 
+-- what to do at the parent and the last name of a path; where these are refused, nothing changes
 abbrev pub at_place : VolumeNow → List ℕ → (Place → Change) → Change
 at_place v path change =
     elim (and_then_row (names_in path) (parent_of replies.Invalid (tree_of_now v))) as (λ _. Change) [ Err reply ↦ unchanged v | Ok place ↦ change place ]
 
+-- what to do at the birth of the node to which a path leads; where it leads to none, nothing changes
 abbrev pub at_path : VolumeNow → List ℕ → (ℕ → Change) → Change
 at_path v path change = elim (walk_path (tree_of_now v) path) as (λ _. Change) [ Err reply ↦ unchanged v | Ok found ↦ change found.birth ]
 
+-- so, with the node itself
 abbrev pub at_found : VolumeNow → List ℕ → (Found → Change) → Change
 at_found v path change = elim (walk_path (tree_of_now v) path) as (λ _. Change) [ Err reply ↦ unchanged v | Ok found ↦ change found ]
 
@@ -109,6 +112,7 @@ rename v tx path other =
 
 -- ---- bytes
 
+-- bytes are written from `off` on, and the size is at least where they end
 abbrev pub write_at : VolumeNow → ℕ → ℕ → List ℕ → Change
 write_at v birth off bytes =
     followed_by (write_blocks v birth off bytes (touched_blocks off (length bytes))) (λ w.
@@ -117,6 +121,7 @@ write_at v birth off bytes =
 abbrev pub write : VolumeNow → List ℕ → ℕ → List ℕ → Change
 write v path off bytes = at_path v path (λ birth. write_at v birth off bytes)
 
+-- the file with this birth gets this size, in bytes, and zones that go wait for the transaction
 abbrev pub truncate_at : VolumeNow → ℕ → ℕ → ℕ → Change
 truncate_at v tx birth size =
     followed_by (cut_blocks v tx birth (div_ceil size 1024)) (λ u.
@@ -141,6 +146,7 @@ changed v n tx other = unchanged v
 
 -- ---- a call
 
+-- what a call changes, and its reply
 pub record Called : Type 0 where
   pub change : Change
   pub reply : Reply
@@ -150,6 +156,7 @@ abbrev pub called_by : VolumeNow → ℕ → ℕ → Call → Row → Called
 called_by v n tx c (Err reply) = record { change = unchanged v; reply = reply }
 called_by v n tx c (Ok done) = record { change = changed v n tx c; reply = done.reply }
 
+-- the call with number `n`, in transaction `tx`
 unfoldable pub called : VolumeNow → ℕ → ℕ → Call → Called
 called v n tx c = called_by v n tx c (outcome (room_of v.geometry) (tree_of_now v) n c)
 

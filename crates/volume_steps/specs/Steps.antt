@@ -36,9 +36,11 @@ use Rattle.volume_steps.specs.Zones.{inode_bit, zone_bit, new_number, next_zone,
 abbrev pub at_node : VolumeNow → ℕ → (Placed → Change) → Change
 at_node v n change = elim (at_number v.contents.nodes n) as (λ _. Change) [ None ↦ unchanged v | Some p ↦ change p ]
 
+-- so, where it is a directory; else nothing changes
 abbrev pub at_directory : VolumeNow → ℕ → (Placed → DirectoryPart → Change) → Change
 at_directory v n change = at_node v n (λ p. elim p.part as (λ _. Change) [ parts.Directory d ↦ change p d | parts.File zones ↦ unchanged v ])
 
+-- so, where it is a file; else nothing changes
 abbrev pub at_file : VolumeNow → ℕ → (Placed → List Mapped → Change) → Change
 at_file v n change = at_node v n (λ p. elim p.part as (λ _. Change) [ parts.Directory d ↦ unchanged v | parts.File zones ↦ change p zones ])
 
@@ -91,6 +93,7 @@ make_file v n =
 abbrev pub dot_slots : ℕ → ℕ → List (Option Slot)
 dot_slots own parent = Some (record { inode = own; name = codes "." }) ∷ Some (record { inode = parent; name = codes ".." }) ∷ []
 
+-- the writes for a new directory with this inode and this zone; `parent` is the number of its parent's inode
 abbrev pub new_directory_edits : Geometry → ℕ → ℕ → ℕ → List Edit
 new_directory_edits g number zone parent =
     inode_bit number true ∷ zone_bit g true zone ∷ put_body zone (zeros 1024)
@@ -173,6 +176,7 @@ abbrev pub has_name : List ℕ → Option Slot → Bool
 has_name name None = false
 has_name name (Some s) = bytes_eq s.name name
 
+-- counted from 0; as many as there are slots where none has the name
 abbrev pub place_of : List ℕ → List (Option Slot) → ℕ
 place_of name [] = 0
 place_of name (s ∷ slots) = if has_name name s then 0 else 1 + place_of name slots
@@ -198,6 +202,7 @@ take_name v n name = at_directory v n (λ p d.
 abbrev pub with_parent : DirectoryPart → ℕ → Slot → DirectoryPart
 with_parent d parent s = record { parent = parent; width = d.width; names = d.names; slots = slice_set d.slots 1 (Some s) }
 
+-- directory `n` gets the parent with this birth, in its slot `..`
 abbrev pub set_parent : VolumeNow → ℕ → ℕ → Change
 set_parent v n parent = at_directory v n (λ p d. at_node v parent (λ above.
     let s : Slot = record { inode = above.number; name = codes ".." } in
@@ -212,6 +217,7 @@ set_parent v n parent = at_directory v n (λ p d. at_node v parent (λ above.
 abbrev pub with_child : DirectoryPart → ℕ → Slot → ℕ → DirectoryPart
 with_child d k s birth = record { parent = d.parent; width = d.width; names = put_name d.names s.name birth; slots = slice_set d.slots k (Some s) }
 
+-- a name in directory `n` leads to the node with this birth, and its slot to that inode
 abbrev pub lead_name : VolumeNow → ℕ → List ℕ → ℕ → Change
 lead_name v n name birth = at_directory v n (λ p d. at_node v birth (λ child.
     let k = place_of name d.slots in
@@ -237,6 +243,7 @@ abbrev pub metadata_gone : Contents → Placed → Part → List ℕ
 metadata_gone c p (parts.File zones) = all_numbers c p
 metadata_gone c p (parts.Directory d) = block_zones c p (parts.Directory d) ++ all_numbers c p
 
+-- the mapped blocks of a file that goes; a directory has no pages
 abbrev pub pages_gone : ℕ → Part → List Page
 pages_gone n (parts.File zones) = map (page_of n) zones
 pages_gone n (parts.Directory d) = []

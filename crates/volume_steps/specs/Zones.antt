@@ -60,6 +60,7 @@ lacks_second own index = if nat_lt index 519 then false else nat_eq (own (inner 
 abbrev pub take_if : Bool → Zones → Zones
 take_if wanted m = if wanted then taken m else m
 
+-- the lowest free zone; 0 where none is wanted
 abbrev pub zone_if : Bool → Zones → ℕ
 zone_if wanted m = if wanted then next_zone m else 0
 
