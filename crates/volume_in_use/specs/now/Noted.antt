@@ -3,10 +3,12 @@ use Rattle.std.specs.Prelude.{ℕ, ◌-◌, [], ◌∷◌, ◌++◌}
 use Rattle.volume_model.specs.Touched.{Page, Touched}
 use Rattle.volume_steps.specs.Now.{untouched}
 
+-- `spare` is how many notes more have room
 pub record Noted : Type 0 where
   pub spare : ℕ
   pub touched : Touched
 
+-- nothing was touched, and there is room for so many notes
 abbrev pub nothing : ℕ → Noted
 nothing room = record { spare = room; touched = untouched }
 

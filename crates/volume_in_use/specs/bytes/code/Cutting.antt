@@ -22,9 +22,11 @@ abbrev pub MayGive : ℕ → Zones → List ℕ → Type 0
 MayGive tx m [] = ⊤
 MayGive tx m (zone ∷ zones) = (state_of m zone ≡ Some states.Used) × MayGive tx (given m zone tx) zones
 
+-- a mapped block of the file with this birth goes
 abbrev pub tells_dropped : ℕ → Mapped → Touched
 tells_dropped birth m = record { blocks = []; freed = []; revoked = []; pages = []; dropped = page_of birth m ∷ []; nodes = [] }
 
+-- a zone of numbers goes, which was metadata
 abbrev pub tells_revoked : ℕ → Touched
 tells_revoked zone = record { blocks = []; freed = []; revoked = zone ∷ []; pages = []; dropped = []; nodes = [] }
 
@@ -55,6 +57,7 @@ abbrev pub numbers_freed : ℕ → List ℕ → Change → Change
 numbers_freed tx [] c = c
 numbers_freed tx (zone ∷ zones) c = numbers_freed tx zones (free_number tx zone c)
 
+-- the blocks first, and then the zones of numbers
 abbrev pub all_freed : ℕ → ℕ → List Mapped → List ℕ → Change → Change
 all_freed tx birth ms numbers c = numbers_freed tx numbers (blocks_freed tx birth ms c)
 

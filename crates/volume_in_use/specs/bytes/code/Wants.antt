@@ -5,6 +5,7 @@ use Rattle.std.specs.List.{count_by, range_with_len}
 use Rattle.tree_model.specs.Calls.{one_if}
 use Rattle.volume_model.specs.Volume.{Place, block, indirect, double, inner}
 
+-- holes among the blocks themselves
 unfoldable pub data_holes : (Place → ℕ) → ℕ → ℕ → ℕ
 data_holes own first end = count_by (λ index. nat_eq (own (block index)) 0) (range_with_len first (end - first))
 
@@ -17,5 +18,6 @@ named_holes own first end =
 abbrev pub is_reached : ℕ → ℕ → ℕ → Bool
 is_reached first end group = nat_lt first (1031 + 512 * group) && nat_lt (519 + 512 * group) end
 
+-- those of so many groups from group `low` on that have one of the blocks
 unfoldable pub group_holes : (Place → ℕ) → ℕ → ℕ → ℕ → ℕ → ℕ
 group_holes own first end low count = count_by (λ group. is_reached first end group && nat_eq (own (inner group)) 0) (range_with_len low count)

@@ -30,11 +30,13 @@ node_of f = record { number = f.number; inode = f.inode; part = parts.File f.zon
 abbrev pub with_nodes : VolumeNow → List (ℕ × Placed) → VolumeNow
 with_nodes v nodes = record { geometry = v.geometry; contents = record { blocks = v.contents.blocks; nodes = nodes }; zones = v.zones }
 
+-- other blocks, with the same nodes
 abbrev pub with_image : VolumeNow → List (List ℕ) → VolumeNow
 with_image v blocks = record { geometry = v.geometry; contents = record { blocks = blocks; nodes = v.contents.nodes }; zones = v.zones }
 
 -- ---- what is done to an open file
 
+-- the volume, the file that was taken out of it, and what was touched so far
 pub record Work : Type 0 where
   pub volume : VolumeNow
   pub file : OpenFile
@@ -52,15 +54,18 @@ single_told own t = if nat_eq (own indirect) 0 then t.outer ∷ t.outer ∷ [] e
 unfoldable pub outer_told : (Place → ℕ) → TakenZones → List ℕ
 outer_told own t = if nat_eq (own double) 0 then t.outer ∷ [] else []
 
+-- `j` is the group of 512 blocks behind the zone of numbers
 unfoldable pub second_told : (Place → ℕ) → TakenZones → ℕ → List ℕ
 second_told own t j = if nat_eq (own (inner j)) 0 then t.second ∷ held own t double ∷ t.second ∷ [] else own (inner j) ∷ []
 
+-- the writes to zones of numbers where block `index` is mapped, in order; a new one is written twice
 abbrev pub numbers_told : (Place → ℕ) → TakenZones → ℕ → List ℕ
 numbers_told own t index =
     if nat_lt index 7 then []
     else (if nat_lt index 519 then single_told own t
     else outer_told own t ++ second_told own t ((index - 519) / 512))
 
+-- what is told where block `index` is mapped; `after` is the inode then
 abbrev pub tells_mapped : VolumeNow → OpenFile → (Place → ℕ) → TakenZones → ℕ → Inode → Touched
 tells_mapped v f own t index after = record {
   blocks = numbers_told own t index ++ inode_told v.geometry f.number f.inode after;
