@@ -38,6 +38,7 @@ slot_step v n at slot slots p = record {
   touched = tells_node n (zone_in v.contents.blocks p.inode (block (at / slots_a_block v.geometry.width)) ∷ back_told v.geometry p (with_size p.inode (slot_size v.geometry.width * slots)));
 }
 
+-- slot `at`, counted from 0, of the directory with birth `n` is written, and `slots` is the count of its slots then
 abbrev pub slot_written : VolumeNow → ℕ → ℕ → Option Slot → ℕ → Change
 slot_written v n at slot slots = at_node v n (slot_step v n at slot slots)
 
@@ -57,6 +58,7 @@ block_step v n index p =
           ++ back_told v.geometry p (map_block v.geometry t.taken (zeros 1024) (opened c p) index).inode));
     }
 
+-- so, as block `index` of the directory with birth `n`
 abbrev pub block_added : VolumeNow → ℕ → ℕ → Change
 block_added v n index = at_node v n (block_step v n index)
 
@@ -121,6 +123,7 @@ directory_step v n above q =
       touched = and_then (tells_writes v.geometry es) (tells_node n []);
     }
 
+-- so does the one with birth `n`; `above` is the number of its parent's inode
 abbrev pub directory_written : VolumeNow → ℕ → ℕ → Change
 directory_written v n above = at_node v n (directory_step v n above)
 

@@ -7,6 +7,7 @@ use Rattle.volume_model.specs.declared.placed.Part.TheVariants as parts
 use Rattle.volume_steps.specs.Now.{VolumeNow, Change, unchanged}
 use Rattle.volume_steps.specs.Calls.{move_in, move_below, replace_in}
 
+-- the birth to which a name leads in a directory; None in a file
 abbrev pub named_in : Part → List ℕ → Option ℕ
 named_in (parts.Directory d) name = at_name d.names name
 named_in (parts.File zones) name = None
@@ -19,6 +20,7 @@ abbrev pub is_directory : Part → Bool
 is_directory (parts.Directory d) = true
 is_directory (parts.File zones) = false
 
+-- false where no node has this birth
 abbrev pub is_directory_at : List (ℕ × Placed) → ℕ → Bool
 is_directory_at nodes birth = elim (at_number nodes birth) as (λ _. Bool) [ None ↦ false | Some p ↦ is_directory p.part ]
 
@@ -29,5 +31,6 @@ renamed_by v tx from name to other birth None =
     if is_directory_at v.contents.nodes birth && not (to == from) then move_below v from name to other birth else move_in v from name to other birth
 renamed_by v tx from name to other birth (Some gone) = if gone == birth then unchanged v else replace_in v tx from name to other birth gone
 
+-- the node with this birth, `name` in directory `from`, is `other` in directory `to` after it
 abbrev pub renamed_at : VolumeNow → ℕ → ℕ → List ℕ → ℕ → List ℕ → ℕ → Change
 renamed_at v tx from name to other birth = renamed_by v tx from name to other birth (birth_named v.contents.nodes to other)
