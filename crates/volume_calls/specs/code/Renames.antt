@@ -9,6 +9,7 @@ use Rattle.volume_calls.specs.declared.walk.Found.{Found as FoundNode}
 use Rattle.volume_calls.specs.declared.walk.Place.{Place as NamePlace}
 use Rattle.volume_calls.specs.declared.renames.Moved.{Moved}
 
+-- a node as the tree has it, by the blocks of the volume
 abbrev pub found_from : List (List ℕ) → FoundNode → Found
 found_from blocks f = record { birth = f.birth; node = node_now blocks f.placed.now }
 
