@@ -22,15 +22,19 @@ pub record IsFirst (from end : ℕ) (Holds : ℕ → Type 0) (n : ℕ) : Type 0 
 
 -- ---- each kind of fault, by itself
 
+-- the map of the inodes has no fault
 abbrev pub HasAllInodeBits : Geometry → List (List ℕ) → Type 0
 HasAllInodeBits g blocks = AllFrom 1 (g.inodes + 1) (HasInodeBit g blocks)
 
+-- the map of the zones has none
 abbrev pub HasAllZoneBits : Geometry → List (List ℕ) → Type 0
 HasAllZoneBits g blocks = AllFrom g.first g.zones (HasZoneBit g blocks)
 
+-- no inode has one in its links
 abbrev pub HasAllLinks : Geometry → List (List ℕ) → Type 0
 HasAllLinks g blocks = AllFrom 1 (g.inodes + 1) (HasLinks g blocks)
 
+-- no directory has one in its dots
 abbrev pub HasAllDots : Geometry → List (List ℕ) → Type 0
 HasAllDots g blocks = AllFrom 1 (g.inodes + 1) (HasDots g blocks)
 

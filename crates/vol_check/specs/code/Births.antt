@@ -28,6 +28,7 @@ tree_in g blocks = put_nodes blocks (nodes_in (walked g blocks)) []
 abbrev pub at_place : List FoundNode → ℕ → Option FoundNode
 at_place ns place = if place == 0 then None else slice_get ns (place - 1)
 
+-- the node with this birth, by the place that the table has for it; None for a birth past the table
 abbrev pub found_at : List FoundNode → List ℕ → ℕ → Option FoundNode
 found_at ns places birth = at_place ns (slice_index_or places birth 0)
 
