@@ -48,6 +48,7 @@ journal_kind journal.NoMemory = image.BadKind
 abbrev pub whole_volume : List (List ℕ) → Geometry → Result Geometry FaultPlace
 whole_volume blocks g = if nat_lt (length blocks) g.zones then Err (image.BadGeometry, length blocks) else Ok g
 
+-- a fault of the superblock is told at block 1
 abbrev pub by_super : List (List ℕ) → Result Geometry LayoutFault → Result Geometry FaultPlace
 by_super blocks (Ok g) = whole_volume blocks g
 by_super blocks (Err fault) = Err (image_fault fault, 1)
@@ -65,6 +66,7 @@ divided blocks =
 abbrev pub has_journal : ℕ → List (List ℕ) → Bool
 has_journal base blocks = nat_lt base (length blocks) && is_journal (disk_of blocks base)
 
+-- a fault of a journal with its block, as one of the image
 abbrev pub as_told : JournalFault × ℕ → FaultPlace
 as_told fault = (journal_kind fault.0, fault.1)
 
@@ -110,6 +112,7 @@ by_geometry blocks (Err told) = Err told
 abbrev pub mounted : List (List ℕ) → Result VolumeState FaultPlace
 mounted blocks = by_geometry blocks (divided blocks)
 
+-- no journal is recovered where the division of the volume has a fault
 abbrev pub recovered_by : List (List ℕ) → Result Geometry FaultPlace → List (List ℕ)
 recovered_by blocks (Ok g) = recovered_from g.zones blocks
 recovered_by blocks (Err told) = blocks
