@@ -91,18 +91,23 @@ indirect_of zones needed kept = if nat_lt 7 needed then (if kept == 0 then slice
 
 -- the zones that it has itself, and the lowest free ones beyond these
 module _ (needed kept : ℕ) (own free : List ℕ) where
+  -- the first of the free zones, where its own are too few
   abbrev pub zones_taken : List ℕ
   zones_taken = take (all_needed needed kept - length own) free
 
+  -- the free zones that are left for others
   abbrev pub zones_left : List ℕ
   zones_left = drop (all_needed needed kept - length own) free
 
+  -- its own come first
   abbrev pub zones_had : List ℕ
   zones_had = own ++ zones_taken
 
+  -- the zones of its slots, in the order of their index
   abbrev pub slot_zones : List ℕ
   slot_zones = take needed zones_had
 
+  -- 0 where it needs none
   abbrev pub indirect_zone : ℕ
   indirect_zone = indirect_of zones_had needed kept
 
@@ -141,6 +146,7 @@ wide_inode i slots zones indirect = record {
 abbrev pub kept_by : Inode → ℕ → ℕ
 kept_by i needed = if nat_lt 7 needed then slice_index i.zones 7 else 0
 
+-- the zones that it has and can use anew: those of data first; an indirect zone that is kept is not among them
 abbrev pub own_zones : List (List ℕ) → Inode → ℕ → List ℕ
 own_zones blocks i needed = data_zones blocks i ++ number_zones blocks i (nat_lt 7 needed)
 
@@ -154,14 +160,17 @@ module _ (g : Geometry) (number : ℕ) (d : Directory) (i : Inode) (needed kept 
       ++ (number_edits (indirect_zone needed kept own free) (slot_zones needed kept own free)
       ++ put_inode number (wide_inode i (length d.names + 2) (slot_zones needed kept own free) (indirect_zone needed kept own free)) ∷ [])))
 
+-- what is written of the directory with this inode, where these zones are free
 abbrev pub edits_of : Geometry → List (List ℕ) → ℕ → Directory → List ℕ → List Edit
 edits_of g blocks number d free = directory_edits g number d (inode_at g blocks number) (zones_needed (length d.names))
     (kept_by (inode_at g blocks number) (zones_needed (length d.names))) (own_zones blocks (inode_at g blocks number) (zones_needed (length d.names))) free
 
+-- the free zones that it leaves
 abbrev pub left_by : Geometry → List (List ℕ) → ℕ → Directory → List ℕ → List ℕ
 left_by g blocks number d free = zones_left (zones_needed (length d.names))
     (kept_by (inode_at g blocks number) (zones_needed (length d.names))) (own_zones blocks (inode_at g blocks number) (zones_needed (length d.names))) free
 
+-- the free zones that it takes
 abbrev pub got_by : Geometry → List (List ℕ) → ℕ → Directory → List ℕ → List ℕ
 got_by g blocks number d free = zones_taken (zones_needed (length d.names))
     (kept_by (inode_at g blocks number) (zones_needed (length d.names))) (own_zones blocks (inode_at g blocks number) (zones_needed (length d.names))) free
@@ -182,6 +191,7 @@ zones_got g blocks (e ∷ es) free = got_by g blocks e.0 e.1 free ++ zones_got g
 abbrev pub beyond : Inode → List (List ℕ) → ℕ → ℕ
 beyond i blocks needed = needed + numbers_needed needed - (length (data_zones blocks i) + length (number_zones blocks i false))
 
+-- of all of these directories
 abbrev pub all_beyond : Geometry → List (List ℕ) → List (ℕ × Directory) → ℕ
 all_beyond g blocks [] = 0
 all_beyond g blocks (e ∷ es) = beyond (inode_at g blocks e.0) blocks (zones_needed (length e.1.names)) + all_beyond g blocks es

@@ -32,6 +32,7 @@ write_edits g number i slots zones own needed kept =
 abbrev pub taken_by : Inode → List (List ℕ) → ℕ → ℕ
 taken_by i blocks needed = all_needed needed (kept_by i needed) - length (own_zones blocks i needed)
 
+-- one with this inode; no room where it needs more than 519 zones of data, or more free ones than are left
 abbrev pub directory_written : Geometry → List (List ℕ) → ℕ → Directory → Widening → Result Widening WidenFault
 directory_written g blocks number d w =
     if nat_lt 519 (zones_needed (length d.names)) || nat_lt (length w.free) (taken_by (inode_at g blocks number) blocks (zones_needed (length d.names))) then Err faults.NoRoom
@@ -54,6 +55,7 @@ nodes_written g blocks (e ∷ es) w = after_one (nodes_written g blocks es) (nod
 
 -- ---- what fits 16 bits
 
+-- the births of its parent and of the nodes that it names
 pub record IsFitting (d : Directory) : Type 0 where
   pub parent : d.parent < 2 ^ 16
   pub names : All (λ e. e.1 < 2 ^ 16) d.names
