@@ -22,6 +22,7 @@ abbrev pub uncancelled : List Transaction → ℕ → List (List ℕ)
 uncancelled [] b = []
 uncancelled (t ∷ ts) b = (if is_cancelled (t ∷ ts) b then [] else bodies_of t.bodies b) ++ uncancelled ts b
 
+-- none where there is no body
 abbrev pub last_of : List (List ℕ) → Option (List ℕ)
 last_of [] = None
 last_of (x ∷ xs) = elim (last_of xs) as (λ _. Option (List ℕ)) [ None ↦ Some x | Some y ↦ Some y ]

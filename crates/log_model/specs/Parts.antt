@@ -8,6 +8,7 @@ pub data Part : Type 0 where
   Describing : List ℕ → List Tag → List (List ℕ) → Part
   Revoking : List ℕ → List ℕ → Part
 
+-- a part's blocks as they stand in the log: the descriptor with its bodies behind it, or the revoke block
 abbrev pub blocks_of_part : Part → List (List ℕ)
 blocks_of_part (Describing block tags bodies) = block ∷ bodies
 blocks_of_part (Revoking block numbers) = block ∷ []
@@ -18,10 +19,12 @@ restored f [] bodies = []
 restored f (t ∷ ts) [] = []
 restored f (t ∷ ts) (b ∷ bs) = record { block = t.block; body = f.restore t b } ∷ restored f ts bs
 
+-- what a part logs; a revoke block logs nothing
 abbrev pub bodies_of_part : Format → Part → List Logged
 bodies_of_part f (Describing block tags bodies) = restored f tags bodies
 bodies_of_part f (Revoking block numbers) = []
 
+-- the blocks that a part revokes; a descriptor revokes none
 abbrev pub revokes_of_part : Part → List ℕ
 revokes_of_part (Describing block tags bodies) = []
 revokes_of_part (Revoking block numbers) = numbers
@@ -43,6 +46,7 @@ abbrev pub revokes_of_parts : List Part → List ℕ
 revokes_of_parts [] = []
 revokes_of_parts (p ∷ ps) = revokes_of_part p ++ revokes_of_parts ps
 
+-- all of them are parts with this one sequence
 abbrev pub AreParts : Format → ℕ → List Part → Type 0
 AreParts f seq [] = Unit {0}
 AreParts f seq (p ∷ ps) = IsPart f seq p × AreParts f seq ps

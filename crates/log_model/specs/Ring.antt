@@ -14,6 +14,7 @@ IsPlace r p = (r.first ≤ p) × (p < r.past)
 abbrev pub places_in : Ring → ℕ
 places_in r = r.past - r.first
 
+-- behind the last place comes the first
 abbrev pub place_after : Ring → ℕ → ℕ
 place_after r p = if p + 1 == r.past then r.first else p + 1
 
