@@ -9,6 +9,7 @@ use Rattle.order_model.specs.declared.request.Request.{Request}
 use Rattle.flush_actor.specs.conflicts.Conflicts.{Conflicts}
 use Rattle.flush_actor.specs.declared.wait.Wait.{Wait}
 
+-- the requests of a session, its completions, the blocks that are held, and what threads wait for
 pub record FlushPart : Type 0 where
   -- what was submitted, what each request carries, and how many there may be
   pub requests : List Request
@@ -24,6 +25,7 @@ abbrev pub is_cut : Completion → Bool
 is_cut completions.Cut = true
 is_cut other = false
 
+-- the request whose failure is reported first
 abbrev pub first_failed : List Completion → Option ℕ
 first_failed [] = None
 first_failed (completions.Failed id ∷ cs) = Some id
@@ -33,12 +35,15 @@ first_failed (c ∷ cs) = first_failed cs
 abbrev pub has_stopped : List Completion → Bool
 has_stopped taken = list_any is_cut taken || elim (first_failed taken) as (λ _. Bool) [ None ↦ false | Some id ↦ true ]
 
+-- a cut or a failure is reported, and nothing more is submitted
 abbrev pub is_over : FlushPart → Bool
 is_over f = has_stopped f.taken
 
+-- there are as many requests as the session may have
 abbrev pub at_limit : FlushPart → Bool
 at_limit f = nat_le f.limit (length f.requests)
 
+-- request id is moved, by this completion
 abbrev pub is_moved : ℕ → Completion → Bool
 is_moved id (completions.Moved i) = i == id
 is_moved id other = false

@@ -25,9 +25,11 @@ commits_before k id i (n ∷ ns) = commits_before k id (i + 1) ns
 abbrev pub is_due_in : List Note → List Completion → Wait → Bool
 is_due_in notes taken w = elim w.need as (λ _. Bool) [ None ↦ false | Some id ↦ list_any (is_moved id) taken && not (flush_above id 0 notes) ]
 
+-- a flush is due for this wait
 abbrev pub is_due : FlushPart → Wait → Bool
 is_due f = is_due_in f.notes f.taken
 
+-- a flush is due for some thread, and the session is not over
 abbrev pub flush_due : FlushPart → Bool
 flush_due f = not (is_over f) && list_any (is_due f) f.waits
 
@@ -35,10 +37,13 @@ flush_due f = not (is_over f) && list_any (is_due f) f.waits
 abbrev pub unhold_before : ℕ → List Note → Conflicts → Conflicts
 unhold_before id ns = unhold_by (λ k. commits_before k id 0 ns)
 
+-- the note is that of the moved request: after a commit block its transaction's holds end, unless a durability
+-- call waits for it
 abbrev pub after_moved : Option Note → List Wait → Conflicts → Conflicts
 after_moved (Some (notes.Commit k)) waits c = if list_any (awaits k) waits then c else unhold k c
 after_moved other waits c = c
 
+-- only a moved commit block and a flush that is answered end holds
 abbrev pub after_completion : Completion → FlushPart → Conflicts
 after_completion (completions.Moved id) f = after_moved (slice_get f.notes id) f.waits f.conflicts
 after_completion (completions.Flushed id) f = unhold_before id f.notes f.conflicts
@@ -50,6 +55,7 @@ take_completion c f = record f { taken = f.taken ++ c ∷ []; conflicts = after_
 
 -- ---- a step and what it answers
 
+-- the part after a step, and what the step answers
 pub record FlushTurn : Type 0 where
   pub part : FlushPart
   pub turn : Turn
@@ -58,6 +64,7 @@ pub record FlushTurn : Type 0 where
 abbrev pub submit_turn : Bool → FlushPart → Turn
 submit_turn full f = if at_limit f then turns.SessionFull else if full then turns.QueueFull else turns.Did
 
+-- the request goes out only where the answer is Did
 abbrev pub after_submit : Turn → Request → Note → FlushPart → FlushPart
 after_submit t r n f = if is_did t then submit r n f else f
 
@@ -68,6 +75,7 @@ submits full f out =
     else if full then record { part = f; turn = turns.QueueFull }
     else record { part = out; turn = turns.Did }
 
+-- a flush is an ordered barrier, and its id is the number of requests before it
 abbrev pub submit_flush : FlushPart → FlushPart
 submit_flush f = submit (record { id = length f.requests; kind = puts.Flush; ordered = true; barrier = true }) notes.Flush f
 

@@ -4,6 +4,7 @@ use Rattle.flush_actor.specs.Kinds.{is_durable, makes_durable}
 use Rattle.flush_actor.specs.declared.call_kind.CallKind.TheVariants.{Reading}
 use Rattle.flush_actor.specs.declared.wait.Wait.{Wait}
 
+-- of a thread that waits for nothing
 abbrev pub no_wait : Wait
 no_wait = record { kind = Reading; target = None; need = None }
 

@@ -18,6 +18,7 @@ is_held c b = list_any (λ (h : Held). h.block == b) c.held
 abbrev pub put_held : List Held → ℕ → ℕ → List Held
 put_held held k b = put_by (λ (h : Held). h.block) held (record { block = b; transaction = k })
 
+-- transaction k holds these blocks
 abbrev pub hold : ℕ → List ℕ → Conflicts → Conflicts
 hold k [] c = c
 hold k (b ∷ bs) c = hold k bs (record c { held = put_held c.held k b })
@@ -32,6 +33,7 @@ unhold_by ended c =
     let left = filter (λ (h : Held). not (ended h.transaction)) c.held in
     record { held = left; wanted = filter (λ b. list_any (λ (h : Held). h.block == b) left) c.wanted }
 
+-- all holds of transaction k end
 abbrev pub unhold : ℕ → Conflicts → Conflicts
 unhold k = unhold_by (λ t. t == k)
 
