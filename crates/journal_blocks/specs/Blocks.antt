@@ -16,6 +16,7 @@ use Rattle.journal_blocks.specs.Header.{magic_of, kind_of, sequence_of}
 abbrev pub has_flag : ℕ → ℕ → Bool
 has_flag bit flags = flags / bit % 2 == 1
 
+-- the flags of the tag that these bytes begin with
 abbrev pub flags_in : List ℕ → ℕ
 flags_in bytes = number_at big 2 6 bytes
 
@@ -28,6 +29,7 @@ module _ (wide : Bool) where
   abbrev pub tag_size : List ℕ → ℕ
   tag_size bytes = if has_flag 2 (flags_in bytes) then front_size else front_size + 16
 
+  -- the bytes begin with a tag, and have all of it
   abbrev pub is_whole : List ℕ → Bool
   is_whole bytes = nat_le front_size (length bytes) && nat_le (tag_size bytes) (length bytes)
 
@@ -35,6 +37,7 @@ module _ (wide : Bool) where
   abbrev pub block_number : List ℕ → ℕ
   block_number bytes = if wide then number_at big 4 8 bytes * 2 ^ 32 + number_at big 4 0 bytes else number_at big 4 0 bytes
 
+  -- the tag that these bytes begin with
   abbrev pub tag_in : List ℕ → Tag
   tag_in bytes = record { block = block_number bytes; escaped = has_flag 1 (flags_in bytes) }
 
@@ -60,9 +63,11 @@ module _ (wide : Bool) where
   abbrev pub number_size : ℕ
   number_size = if wide then 8 else 4
 
+  -- a count, in bytes, that a revoke block may have: with its front of 16, within the block, and of whole numbers
   abbrev pub is_count : ℕ → Bool
   is_count count = nat_le 16 count && (nat_le count 1024 && (count % number_size == 0))
 
+  -- block number k of a revoke block, counted from 0
   abbrev pub revoked_at : List ℕ → ℕ → ℕ
   revoked_at b k = number_at big number_size (16 + number_size * k) b
 

@@ -21,6 +21,7 @@ pub data Said : Type 0 where
   BadRevoke : Said
   Nothing : Said
 
+-- of a block whose sequence is the expected one; what is no block of the log says nothing
 abbrev pub said_by : Result LogBlock JournalFault → Said
 said_by (Ok (Descriptor n tags)) = Tags tags
 said_by (Ok (Commit n)) = Ends
@@ -62,10 +63,12 @@ pub data Log : Type 0 where
 abbrev pub goes_on : Reading → Log
 goes_on r = GoesOn r
 
+-- what was read, whether the log goes on or has ended
 abbrev pub found : Log → Reading
 found (GoesOn r) = r
 found (HasEnded r) = r
 
+-- the fault that was there counts, and the next one only where there was none
 abbrev pub first_of : Option ℕ → Option ℕ → Option ℕ
 first_of None next = next
 first_of (Some at) next = Some at
@@ -106,6 +109,7 @@ module _ (wide : Bool) where
   by_tags zones r e [] = by_said zones r e.at (said wide r.sequence e.body)
   by_tags zones r e (t ∷ ts) = GoesOn (record r { tags = ts; bodies = r.bodies ++ record { block = t.block; body = restored t.escaped e.body } ∷ [] })
 
+  -- the log after one block more; from block `zones` on there is nothing of the volume
   abbrev pub read_entry : ℕ → Log → Entry → Log
   read_entry zones (HasEnded r) e = HasEnded r
   read_entry zones (GoesOn r) e = by_tags zones r e r.tags
@@ -114,6 +118,7 @@ module _ (wide : Bool) where
   read_log zones l [] = l
   read_log zones l (e ∷ es) = read_log zones (read_entry zones l e) es
 
+-- before the first block of a log that begins with this sequence
 abbrev pub beginning : ℕ → Reading
 beginning sequence = record { sequence = sequence; tags = []; bodies = []; revokes = []; suspect = None; done = []; fault = None }
 
@@ -125,6 +130,7 @@ body_at image block = slice_index_or image block (filled 0)
 abbrev pub places : JournalSuper → List ℕ
 places s = range_with_len s.start (s.maxlen - s.start) ++ range_with_len s.first (s.start - s.first)
 
+-- the place counts from the journal's superblock, which is block `base` of the image
 abbrev pub entry_at : ℕ → List (List ℕ) → ℕ → Entry
 entry_at base image place = record { at = base + place; body = body_at image (base + place) }
 

@@ -14,6 +14,7 @@ use Rattle.journal_blocks.specs.declared.fault.JournalFault.TheVariants.{NotMagi
 use Rattle.journal_blocks.specs.Header.{sequence_of}
 use Rattle.journal_blocks.specs.Blocks.{log_block_of, restored}
 
+-- the tag as the model has it
 abbrev pub tag_of : Tag → model.Tag
 tag_of t = record { block = t.block; escaped = t.escaped }
 

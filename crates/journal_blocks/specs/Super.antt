@@ -25,9 +25,11 @@ super_fields s =
 unfoldable pub super_block : JournalSuper → List ℕ
 super_block s = written big (super_fields s) (zeros 1024)
 
+-- the size of a block, in bytes
 abbrev pub size_of : List ℕ → ℕ
 size_of b = number_at big 4 0x0C b
 
+-- the fields as they stand in the bytes, sound or not
 abbrev pub numbers_of : List ℕ → JournalSuper
 numbers_of b = record {
   maxlen = number_at big 4 0x10 b;

@@ -5,6 +5,7 @@ use Rattle.byte_fields.specs.Fields.Order.{big}
 use Rattle.journal_blocks.specs.declared.tag.Tag.{Tag}
 use Rattle.journal_blocks.specs.Blocks.{number_size}
 
+-- of a tag: 1 where its body is escaped, 2 where it has no uuid of its own, 8 where it is the descriptor's last
 abbrev pub flags_of : Bool → Bool → Bool → ℕ
 flags_of escaped first last = (if escaped then 1 else 0) + ((if first then 0 else 2) + (if last then 8 else 0))
 
@@ -19,14 +20,17 @@ module _ (wide : Bool) where
       bytes_of big 4 (t.block % 2 ^ 32)
       ++ (bytes_of big 2 0 ++ (bytes_of big 2 (flags_of t.escaped first last) ++ (high_half t ++ zeros (if first then 16 else 0))))
 
+  -- `first` says that the first of these is the first of its descriptor
   abbrev pub tags_bytes : Bool → List Tag → List ℕ
   tags_bytes first [] = []
   tags_bytes first (t ∷ ts) = tag_bytes first (length ts == 0) t ++ tags_bytes false ts
 
+  -- the block numbers of a revoke block
   abbrev pub numbers_bytes : List ℕ → List ℕ
   numbers_bytes [] = []
   numbers_bytes (n ∷ ns) = bytes_of big (number_size wide) n ++ numbers_bytes ns
 
+-- the 12 bytes of magic number, type and sequence
 abbrev pub header_bytes : ℕ → ℕ → List ℕ
 header_bytes kind sequence = bytes_of big 4 0xC03B3998 ++ (bytes_of big 4 kind ++ bytes_of big 4 sequence)
 
