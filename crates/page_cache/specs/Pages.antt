@@ -46,6 +46,7 @@ abbrev pub IsRising : List CachedPage → Type 0
 IsRising [] = ⊤
 IsRising (p ∷ ps) = ((q : CachedPage) → In q ps → Below p q) × IsRising ps
 
+-- page i of the file with birth f
 abbrev pub page_at : List CachedPage → ℕ → ℕ → Option CachedPage
 page_at [] f i = None
 page_at (p ∷ ps) f i = if is_page p f i then Some p else page_at ps f i
@@ -58,6 +59,7 @@ put_page (p ∷ ps) q =
     else if is_below q.birth q.index p then q ∷ p ∷ ps
     else p ∷ put_page ps q
 
+-- page i of the file with birth f goes, if it is there
 abbrev pub drop_page : List CachedPage → ℕ → ℕ → List CachedPage
 drop_page ps f i = filter (λ p. not (is_page p f i)) ps
 
@@ -84,5 +86,6 @@ unsent_of ps births = find (λ p. is_unsent p.state && has births p.birth) ps
 abbrev pub dirty_page : List CachedPage → ℕ → Option CachedPage
 dirty_page ps pick = slice_get (filter (λ p. is_dirty p.state) ps) pick
 
+-- birth and index, by which pages are in order
 abbrev pub key_of : CachedPage → ℕ × ℕ
 key_of p = (p.birth, p.index)

@@ -18,6 +18,7 @@ is_before k f i = nat_lt k.0 f || (k.0 == f && nat_lt k.1 i)
 abbrev pub is_key : ℕ × ℕ → ℕ → ℕ → Bool
 is_key k f i = k.0 == f && k.1 == i
 
+-- k stands before l, in the order of birth and index
 abbrev pub KeyBelow : ℕ × ℕ → ℕ × ℕ → Type 0
 KeyBelow k l = (k.0 < l.0) ⊎ ((k.0 ≡ l.0) × (k.1 < l.1))
 
@@ -58,6 +59,7 @@ abbrev pub if_in : ℕ → Option (ℕ × ℕ) → Option (ℕ × ℕ)
 if_in f None = None
 if_in f (Some k) = if k.0 == f then Some k else None
 
+-- the first key of the file with birth f, from index `from` on
 abbrev pub next_in : List (ℕ × ℕ) → ℕ → ℕ → Option (ℕ × ℕ)
 next_in ks f from = if_in f (slice_get ks (place_of ks f from))
 
