@@ -4,6 +4,7 @@ use Rattle.log_model.specs.Marks.{Transaction}
 use Rattle.log_model.specs.Ring.{places_on, places_from}
 use Rattle.journal_ring.specs.LogRing.{LogRing, ring_size, commit_bodies}
 
+-- the transactions are committed in this order, the first one first
 abbrev pub all_committed : LogRing → List Transaction → LogRing
 all_committed r [] = r
 all_committed r (t ∷ ts) = all_committed (commit_bodies t.revokes t.bodies r) ts

@@ -11,6 +11,7 @@ use Rattle.journal_ring.specs.running.Plan as plan
 use Rattle.journal_ring.specs.running.Plan.{Writers, logged_blocks}
 use Rattle.journal_ring.specs.declared.running.pieces.UnplacedBlock.{UnplacedBlock}
 
+-- a tag of the model as it is written
 abbrev pub written_tag : model.Tag → Tag
 written_tag t = record { block = t.block; escaped = t.escaped }
 

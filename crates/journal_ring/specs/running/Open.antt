@@ -13,6 +13,7 @@ pub record OpenTransaction : Type 0 where
 abbrev pub made : JournalSuper → OpenTransaction
 made s = record { made_with = s; spare = 0; running = fresh 1 }
 
+-- room for at least so many notes
 abbrev pub reserved : ℕ → OpenTransaction → OpenTransaction
 reserved more t = record t { spare = if nat_lt t.spare more then more else t.spare }
 

@@ -38,6 +38,7 @@ chunks_from {X = X} most left begun [] = elim begun as (λ _. List (List X)) [ [
 chunks_from most zero begun (x ∷ xs) = begun ∷ chunks_from most (most - 1) (x ∷ []) xs
 chunks_from most (suc left) begun (x ∷ xs) = chunks_from most left (begun ++ x ∷ []) xs
 
+-- each part but the last has `most` elements; no elements are no part
 abbrev pub chunks : {X : Type 0} → ℕ → List X → List (List X)
 chunks most xs = chunks_from most most [] xs
 
@@ -45,9 +46,11 @@ module _ (w : Writers) (k sequence : ℕ) where
   abbrev pub revoke_block : List ℕ → UnplacedBlock
   revoke_block blocks = record { note = Revoke k; body = w.revoke sequence blocks }
 
+  -- the block that the body is for, and whether the body is stored escaped
   abbrev pub tag_of : Logged → Tag
   tag_of l = record { block = l.block; escaped = w.is_escaped l.body }
 
+  -- the body as it is stored in the log, escaped where it must be
   abbrev pub body_block : Logged → UnplacedBlock
   body_block l = record { note = Body k l.block; body = w.stored l.body }
 

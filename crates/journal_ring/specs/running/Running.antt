@@ -4,6 +4,7 @@ use Rattle.std.specs.Prelude.{ℕ, ◌+◌, Bool, true, false, nat_le, List, [],
 use Rattle.number_sets.specs.Sets.{with, without_all}
 use Rattle.journal_ring.specs.running.Plan.{Writers}
 
+-- the transaction whose plan is not built yet
 pub record Running : Type 0 where
   pub number : ℕ
   -- the blocks whose bodies it will log, in rising order; zones of metadata that it freed; the births of nodes
@@ -14,6 +15,7 @@ pub record Running : Type 0 where
   -- somebody wants it closed
   pub wanted : Bool
 
+-- transaction k before its first call
 abbrev pub fresh : ℕ → Running
 fresh k = record { number = k; touched = []; revoked = []; changed = []; wanted = false }
 
@@ -21,6 +23,7 @@ fresh k = record { number = k; touched = []; revoked = []; changed = []; wanted 
 abbrev pub log_blocks_for : Writers → ℕ → ℕ → ℕ
 log_blocks_for w b r = div_ceil r w.most_revokes + div_ceil b w.most_tags + b + 1
 
+-- how many log blocks it would have if it were closed now
 abbrev pub log_needs : Writers → Running → ℕ
 log_needs w r = log_blocks_for w (length r.touched) (length r.revoked)
 
@@ -31,6 +34,7 @@ fits_in w zmap quota r = nat_le (log_blocks_for w (length r.touched + zmap + 12)
 
 -- ---- what a call changes, one by one
 
+-- block b is to be logged
 abbrev pub touched_one : ℕ → Running → Running
 touched_one b r = record r { touched = with r.touched b }
 
@@ -38,6 +42,7 @@ touched_one b r = record r { touched = with r.touched b }
 abbrev pub revoked_one : ℕ → Running → Running
 revoked_one b r = record r { touched = without_all r.touched (b ∷ []); revoked = with r.revoked b }
 
+-- f is the birth of the node
 abbrev pub changed_one : ℕ → Running → Running
 changed_one f r = record r { changed = with r.changed f }
 

@@ -9,6 +9,7 @@ pub record HasRoom (numbers : List ℕ) (spare room : ℕ) : Type 0 where
   pub rising : IsRising numbers
   pub fits : length numbers + spare ≤ room
 
+-- there is room for `spare` notes more in each of the three sets
 pub record IsRunning (s : JournalSuper) (number spare : ℕ) (touched revoked changed : List ℕ) (touched_room revoked_room changed_room : ℕ) : Type 0 where
   pub sound : IsSound s
   pub first : 1 ≤ number
