@@ -38,9 +38,11 @@ with_part a j = record { made_with = a.made_with; journal = a.journal; blocks = 
 
 -- ---- the part without its phase
 
+-- the whole part, in this phase
 abbrev pub part_of : LogState → Phase → JournalPart
 part_of l p = record { flush = l.flush; ring = l.ring; running = l.running; phase = p }
 
+-- the part's fields come, but for its phase
 abbrev pub with_parts : LogState → JournalPart → LogState
 with_parts l j = record { made_with = l.made_with; journal = l.journal; blocks = l.blocks; spare = l.spare; flush = j.flush; ring = j.ring; running = j.running }
 
@@ -51,6 +53,7 @@ with_flush l f = record { made_with = l.made_with; journal = l.journal; blocks =
 abbrev pub open_of : LogState → OpenTransaction
 open_of l = record { made_with = l.made_with; spare = l.spare; running = l.running }
 
+-- the running transaction and its room are these
 abbrev pub with_open : LogState → OpenTransaction → LogState
 with_open l t = record { made_with = l.made_with; journal = l.journal; blocks = l.blocks; spare = t.spare; flush = l.flush; ring = l.ring; running = t.running }
 
@@ -75,6 +78,7 @@ made_log r journal blocks threads = record {
   running = fresh 1;
 }
 
+-- a new session has no plan, and transaction 1 runs
 abbrev pub made : JournalRing → ℕ → ℕ → ℕ → CommitActor
 made r journal blocks threads = actor_of (made_log r journal blocks threads) Idle
 

@@ -16,6 +16,7 @@ with_flush a f = record {
 abbrev pub open_of : CommitActor → OpenTransaction
 open_of a = record { made_with = a.made_with; spare = a.spare; running = a.part.running }
 
+-- the running transaction and its room are these
 abbrev pub with_open : CommitActor → OpenTransaction → CommitActor
 with_open a t = record {
   made_with = a.made_with;

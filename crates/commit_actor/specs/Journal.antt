@@ -15,11 +15,13 @@ pub record Plan : Type 0 where
   pub revokes : List ℕ
   pub changed : List ℕ
 
+-- the running transaction goes on, or is to be closed, or the one before it still has log blocks to submit
 pub data Phase : Type 0 where
   Idle : Phase
   Closing : Phase
   Committing : Plan → Phase
 
+-- what was submitted, the ring of the log, the running transaction, and what is being done with it
 pub record JournalPart : Type 0 where
   pub flush : FlushPart
   pub ring : LogRing

@@ -28,6 +28,7 @@ pub record CommitTurn : Type 0 where
 abbrev pub did : JournalPart → List CachedPage → CommitTurn
 did j ps = record { part = j; pages = ps; turn = turns.Did }
 
+-- the step changed nothing
 abbrev pub idle : JournalPart → List CachedPage → CommitTurn
 idle j ps = record { part = j; pages = ps; turn = turns.Idle }
 
@@ -43,6 +44,7 @@ submits full j ps out out_pages =
     else if full then record { part = j; pages = ps; turn = turns.QueueFull }
     else did out out_pages
 
+-- a page of a changed file goes to its block, ahead of the log blocks
 abbrev pub page_sent : JournalPart → CachedPage → JournalPart
 page_sent j p = put_out j (notes.Page p.birth p.index p.version) p.block p.body false
 
@@ -54,9 +56,11 @@ committed j k id p = record j {
   phase = Idle;
 }
 
+-- the next request of a plan goes out
 abbrev pub planned_out : JournalPart → Planned → JournalPart
 planned_out j p = put_out j p.note p.block p.body p.barrier
 
+-- `first` goes out; with the last one, the commit block, the transaction is committed
 abbrev pub plan_sent : JournalPart → Plan → Planned → List Planned → JournalPart
 plan_sent j p first [] = committed (planned_out j first) (j.running.number - 1) (length j.flush.requests) p
 plan_sent j p first (q ∷ qs) = planned_out (record j { phase = Committing (record p { rest = q ∷ qs }) }) first
@@ -113,10 +117,12 @@ module _ (w : Writers) (journal sequence : ℕ) where
             else did (plan_built bodies j) ps
       ]
 
+  -- `bodies` are the present bodies of blocks
   abbrev pub phase_turn : Bool → (ℕ → List ℕ) → JournalPart → List CachedPage → Phase → CommitTurn
   phase_turn full bodies j ps Idle = idle_turn j ps
   phase_turn full bodies j ps Closing = close_turn full bodies j ps
   phase_turn full bodies j ps (Committing p) = plan_turn full j ps p
 
+  -- nothing is done after a cut or a failure
   abbrev pub commit_turn : Bool → (ℕ → List ℕ) → JournalPart → List CachedPage → CommitTurn
   commit_turn full bodies j ps = if is_over j.flush then idle j ps else phase_turn full bodies j ps j.phase

@@ -39,11 +39,13 @@ pub record IsOnItsWay (l : LogState) (s : Sending) : Type 0 where
   pub left : 1 ≤ length s.pieces
   pub place : IsPlace l.ring.places s.place
 
+-- what holds in each phase of the code
 abbrev pub IsInPhase : LogState → Phase → Type 0
 IsInPhase l Idle = IsAtRest l
 IsInPhase l Closing = IsAtRest l
 IsInPhase l (Committing s) = IsOnItsWay l s
 
+-- the phase as the model has it
 abbrev pub phase_of : LogState → Phase → model.Phase
 phase_of l Idle = model.Idle
 phase_of l Closing = model.Closing

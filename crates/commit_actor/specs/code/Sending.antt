@@ -9,6 +9,7 @@ use Rattle.commit_actor.specs.Journal.{Plan}
 use Rattle.commit_actor.specs.declared.sending.PlannedPut.{PlannedPut}
 use Rattle.commit_actor.specs.declared.sending.Sending.{Sending}
 
+-- the put as the model has it
 abbrev pub planned_of : PlannedPut → Planned
 planned_of p = record { note = p.note; block = p.block; body = p.body; barrier = p.barrier }
 
@@ -27,9 +28,11 @@ unbarred journal made_with places s =
     if s.super_left then record { note = Super; block = journal; body = (writers made_with).super s.sequence s.place; barrier = false } ∷ placed journal places s.place s.pieces
     else placed journal places s.place s.pieces
 
+-- the requests that are still to be sent, in order
 abbrev pub rest_of : ℕ → JournalSuper → Ring → Sending → List Planned
 rest_of journal made_with places s = with_barriers (unbarred journal made_with places s)
 
+-- the plan as the model has it
 abbrev pub plan_left : ℕ → JournalSuper → Ring → Sending → Plan
 plan_left journal made_with places s = record { rest = rest_of journal made_with places s; bodies = s.homes.pairs.items; revokes = s.homes.revoked.items; changed = s.changed.items }
 
