@@ -22,9 +22,11 @@ write id home last = record {
   flush = None;
 }
 
+-- the flush that makes all before it durable
 abbrev pub flush : ℕ → Command
 flush id = record { parts = []; priority = Ordered; barrier = true; flush = Some id }
 
+-- one command for each body, with ids from this one on; only the last is a barrier
 abbrev pub home_writes : ℕ → List Logged → List Command
 home_writes id [] = []
 home_writes id (h ∷ hs) = write id h (length hs == 0) ∷ home_writes (id + 1) hs
@@ -39,13 +41,16 @@ home_of i Keep = []
 home_of i Clear = []
 home_of i (Set x) = for_block i x ∷ []
 
+-- the bodies to be written home, of n blocks from i on
 abbrev pub homes : (ℕ → Mark) → ℕ → ℕ → List Logged
 homes m i zero = []
 homes m i (suc n) = home_of i (m i) ++ homes m (i + 1) n
 
+-- home writes, then the superblock of the empty log, then a flush
 abbrev pub sends : List Logged → Logged → List Command
 sends hs superblock = home_writes 0 hs ++ ending (length hs) superblock
 
+-- nothing is sent where the journal cannot be read or its log is empty
 abbrev pub commands_by : ℕ → List (List ℕ) → Result JournalSuper JournalFault → List Command
 commands_by base image (Err fault) = []
 commands_by base image (Ok s) =

@@ -22,6 +22,7 @@ abbrev pub all_choices : List Repeated → List Choice
 all_choices [] = []
 all_choices (r ∷ rs) = replicate r.times r.choice ++ all_choices rs
 
+-- the first flush or failure ends a run, and a cut does not
 abbrev pub by_completion : End → Completion → End
 by_completion ends.Running (completion.Flushed id) = ends.Flushed
 by_completion ends.Running (completion.Failed id) = ends.Failed id
@@ -35,6 +36,7 @@ abbrev pub end_after : End → List Completion → End
 end_after e [] = e
 end_after e (c ∷ cs) = end_after (by_completion e c) cs
 
+-- by all completions that the device has sent
 abbrev pub end_of : Seen → End
 end_of s = end_after ends.Running s.sent
 
@@ -67,9 +69,11 @@ module _ {S : Type 0} where
   drained_by m zero (Some c) s = s
   drained_by m (suc n) (Some c) s = drained_by m n (m.next_answer (m.answered s)) (m.answered s)
 
+  -- all completions that wait are taken
   abbrev pub drained : Machine S → S → S
   drained m s = drained_by m (length (m.seen s).waiting) (m.next_answer s) s
 
+  -- a device step, and then all completions are taken
   abbrev pub stepped : Machine S → Choice → S → S
   stepped m c s = drained m (chosen m c s)
 

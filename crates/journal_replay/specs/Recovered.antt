@@ -33,6 +33,7 @@ next_sequence r = (r.sequence + 1) % 2 ^ 32
 abbrev pub emptied_super : ℕ → JournalSuper → List (List ℕ) → List ℕ
 emptied_super base s image = with_tail (next_sequence (log_of base s image)) 0 (body_at image base)
 
+-- all bodies are home, and the superblock says that the log is empty
 abbrev pub emptied : ℕ → JournalSuper → List (List ℕ) → List (List ℕ)
 emptied base s image = slice_set (healed (log_mark base s image) 0 image) base (emptied_super base s image)
 

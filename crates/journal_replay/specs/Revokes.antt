@@ -10,6 +10,7 @@ use Rattle.log_model.specs.LastLogged.{bodies_of, last_of}
 abbrev pub is_revoked : List ℕ → ℕ → Bool
 is_revoked blocks b = list_any (λ r. r == b) blocks
 
+-- the second one counts only where there is no first
 abbrev pub later : Option ℕ → Option ℕ → Option ℕ
 later (Some k) first = Some k
 later None first = first
@@ -23,6 +24,7 @@ last_revoke i (t ∷ ts) b = later (last_revoke (i + 1) ts b) (if is_revoked t.r
 abbrev pub place_of : List (ℕ × ℕ) → ℕ → Option ℕ
 place_of entries b = lookup (is_at (nat_cmp b)) entries
 
+-- the block has this place now, in place of one that it had
 abbrev pub with_place : List (ℕ × ℕ) → ℕ → ℕ → List (ℕ × ℕ)
 with_place entries b place = insert_entry nat_cmp entries b place
 
@@ -31,6 +33,7 @@ abbrev pub cancels : Option ℕ → ℕ → Bool
 cancels None i = false
 cancels (Some k) i = nat_le i k
 
+-- the new body, or the old one where there is no new one
 abbrev pub or_else : Option (List ℕ) → Option (List ℕ) → Option (List ℕ)
 or_else None old = old
 or_else (Some x) old = Some x

@@ -11,6 +11,7 @@ logged h = for_block h.block h.body
 abbrev pub logged_of : List Home → List Logged
 logged_of homes = map logged homes
 
+-- the bodies of a log as the model has them
 abbrev pub logged_bodies : List LogBody → List Logged
 logged_bodies bodies = map (λ (b : LogBody). for_block b.block b.body) bodies
 

@@ -48,6 +48,7 @@ pub record FlushedLast (cs : List Command) (id : ℕ) : Type 0 where
   pub alone : (x : ℕ) (p : Part) → part_at cs x ≡ Some p → p.id ≡ id → ⊥
   pub listed : In id (all_ids cs)
 
+-- the last of these commands is a flush, whatever its id
 abbrev pub IsFlushedLast : List Command → Type 0
 IsFlushedLast cs = (id : ℕ) × FlushedLast cs id
 

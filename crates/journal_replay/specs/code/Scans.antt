@@ -15,6 +15,7 @@ use Rattle.journal_replay.specs.declared.fault.RecoverFault.TheVariants as recov
 use Rattle.journal_replay.specs.Driving.{WereRead, FailsToRead}
 use Rattle.journal_replay.specs.code.Homes.{logged_bodies}
 
+-- the transaction as the model has it
 abbrev pub transaction_of : LogTransaction → Transaction
 transaction_of t = record { bodies = logged_bodies t.bodies.items; revokes = t.revokes.items }
 
@@ -47,6 +48,7 @@ module _ {S X : Type 0} (m : Machine S) where
   HasAsked (Err scan.ReadFault) first now = FailsToRead m first now
   HasAsked (Err scan.NoMemory) first now = WereRead m first now
 
+  -- the same by the answer of a whole recovery
   abbrev pub HasAskedFor : Result X RecoverFault → S → S → Type 0
   HasAskedFor (Ok x) first now = WereRead m first now
   HasAskedFor (Err recovering.ReadFault) first now = FailsToRead m first now
