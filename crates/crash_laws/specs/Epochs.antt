@@ -5,6 +5,7 @@ use Rattle.order_model.specs.declared.request.Request.{Request}
 use Rattle.order_model.specs.OrderClosed.{is_flush}
 use Rattle.crash_laws.specs.Found.{count_below}
 
+-- request i is a barrier or a flush
 abbrev pub is_fence : List Request → ℕ → Bool
 is_fence requests i = option_map_or (λ (r : Request). r.barrier || is_flush r.kind) (slice_get requests i) false
 

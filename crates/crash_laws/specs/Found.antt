@@ -22,6 +22,7 @@ is_kept requests origins i =
     option_map_or (λ o. nat_le i o)
     (option_and_then (λ (o : Option ℕ). o) (option_and_then (λ b. slice_get origins b) (option_and_then (λ (r : Request). kind_block r.kind) (slice_get requests i)))) false
 
+-- request i is a commit block, and the medium has kept it
 abbrev pub is_kept_commit : Session → Medium → ℕ → Bool
 is_kept_commit s m i = option_map_or is_commit (slice_get s.notes i) false && is_kept s.requests m.origins i
 

@@ -25,6 +25,7 @@ module _ {A : Type 0} (program : Reads A) (h : History A) (s : Session) (m : Med
         → (t : HasVersion program h s m F f i (last_write h f i (h.cut k))) × (disk (h.place (answer disk program) (h.cut F) f i) ≡ h.content f i t.version)
 
 module _ {A : Type 0} (program : Reads A) (h : History A) (s : Session) (m : Medium) where
+  -- F is the number of kept commit blocks, and `sent` what the device has reported
   pub record KeepsPromises (F : ℕ) (sent : List Completion) : Type 0 where
     -- a barrier call that answered Ok at e: where a later write survived, all that it covers did
     pub barriers : (c : BegunCall) (e : ℕ) → KeepsBarrier h s e (Covers h c) (CoversEntry c) → IsLaterKept h s m F e

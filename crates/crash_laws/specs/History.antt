@@ -2,6 +2,7 @@
 -- transactions end. Entries are numbered from 1; number 0 is the tree that was opened.
 use Rattle.std.specs.Prelude.{◌≡◌, ℕ, zero, suc, ◌+◌, ◌-◌, ◌<◌, ◌≤◌, Bool, true, false, List, if◌then◌else◌}
 
+-- A is what a walk of a disk finds
 pub record History (A : Type 0) : Type 0 where
   -- the number of the last entry of each transaction
   pub cut : ℕ → ℕ

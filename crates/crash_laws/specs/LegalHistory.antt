@@ -62,10 +62,12 @@ abbrev pub done_at : List Event → Event → Entry
 done_at before (Begin t c) = None
 done_at before (End t c r) = if has_begun t false before then None else if is_turned_away r then None else Some c
 
+-- one for each of these events, which stand behind the others
 abbrev pub done_from : List Event → List Event → List Entry
 done_from before [] = []
 done_from before (e ∷ events) = done_at before e ∷ done_from (before ++ e ∷ []) events
 
+-- one for each event, so that both have the same numbers
 abbrev pub done_by : List Event → List Entry
 done_by events = done_from [] events
 
@@ -101,6 +103,7 @@ pub record IsReply (room : Room) (tree : Tree) (n : ℕ) (c : Call) (r : Reply) 
 abbrev pub IsBegun : List Event → ℕ → ℕ → Type 0
 IsBegun events i t = has_begun t false (take i events) ≡ true
 
+-- the threads do the calls of their programs in order, and the tree before a call answers it, or it is turned away
 pub record IsLegal (room : Room) (width : ℕ) (programs : ℕ → List Call) (events : List Event) : Type 0 where
   pub programs_followed : (t : ℕ) → Follows (of_thread t events) (programs t)
   -- a call that ends at once

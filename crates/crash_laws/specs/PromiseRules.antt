@@ -60,6 +60,7 @@ pub record BegunCall : Type 0 where
   pub file : Option ℕ
   pub metadata : Bool
 
+-- a call on no file of its own is on each file
 abbrev pub IsOn : Option ℕ → ℕ → Type 0
 IsOn None f = Unit {0}
 IsOn (Some g) f = g ≡ f
@@ -68,6 +69,7 @@ IsOn (Some g) f = g ≡ f
 abbrev pub Covers : {A : Type 0} → History A → BegunCall → ℕ → ℕ → ℕ → Type 0
 Covers h c f i n = IsOn c.file f × (n < c.begin) × (h.writes n f i ≡ true)
 
+-- entry n stands before the call's Begin, and the call covers metadata
 abbrev pub CoversEntry : BegunCall → ℕ → Type 0
 CoversEntry c n = (c.metadata ≡ true) × (n < c.begin)
 

@@ -12,6 +12,7 @@ use Rattle.log_model.specs.Log.{Format}
 use Rattle.log_model.specs.Marks.{Transaction, transactions_from, replayed}
 use Rattle.log_model.specs.Ring.{Ring, places_on}
 
+-- what a host submitted, with the journal that it was for and what its transactions hold
 pub record Session : Type 0 where
   -- the image that the session began with
   pub base : List (List ℕ)
@@ -66,6 +67,7 @@ pub record LogBlock : Type 0 where
   pub id : ℕ
   pub transaction : ℕ
 
+-- i is the place of a request; without a transaction it is no log block
 abbrev pub with_log_block : Option ℕ → ℕ → List LogBlock → List LogBlock
 with_log_block None i log_blocks = log_blocks
 with_log_block (Some k) i log_blocks = record { id = i; transaction = k } ∷ log_blocks
@@ -75,6 +77,7 @@ abbrev pub log_blocks_from : ℕ → List Note → List LogBlock
 log_blocks_from i [] = []
 log_blocks_from i (n ∷ ns) = with_log_block (log_transaction n) i (log_blocks_from (i + 1) ns)
 
+-- of all transactions, in order of submission
 abbrev pub log_blocks : Session → List LogBlock
 log_blocks s = log_blocks_from 0 s.notes
 
@@ -85,6 +88,7 @@ log_blocks_below k = filter (λ (e : LogBlock). nat_lt e.transaction k)
 abbrev pub log_blocks_of : ℕ → List LogBlock → List LogBlock
 log_blocks_of k = filter (λ (e : LogBlock). e.transaction == k)
 
+-- the bytes that these log blocks write
 abbrev pub bodies_of : Session → List LogBlock → List (List ℕ)
 bodies_of s = map (λ (e : LogBlock). body_at s e.id)
 

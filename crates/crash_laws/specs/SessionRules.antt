@@ -85,6 +85,7 @@ pub record IsSafe (run : Run) (m : Medium) (recovered : List (List ℕ)) (F : �
       ⊎ IsSuperseded (history run) birth index n (run.cut F)
   pub metadata : (n : ℕ) → CoversEntry begun n → n ≤ run.cut F
 
+-- the four of them; F is the number of kept commit blocks
 pub record Sentences (run : Run) (m : Medium) (recovered : List (List ℕ)) (F : ℕ) : Type 0 where
   pub prefix : HasPrefix run m recovered F
   pub versions : HasVersions run m recovered F

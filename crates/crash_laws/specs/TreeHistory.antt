@@ -22,10 +22,12 @@ use Rattle.crash_laws.specs.Volumes.{WalkEnd}
 
 -- ---- where a walk finds the blocks of a file
 
+-- 0 where the index is not mapped
 abbrev pub zone_of_index : List Mapped → ℕ → ℕ
 zone_of_index [] index = 0
 zone_of_index (m ∷ more) index = if m.index == index then m.zone else zone_of_index more index
 
+-- the zone of a block of the file with this birth; 0 where there is none
 abbrev pub zone_in : List FoundNode → ℕ → ℕ → ℕ
 zone_in [] birth index = 0
 zone_in (n ∷ more) birth index = if n.birth == birth then zone_of_found n.found index else zone_in more birth index
@@ -40,6 +42,7 @@ zone_in_walk blocks (Err fault) names index = 0
 zone_in_walk blocks (Ok met) names index =
     elim (node_of_path (put_nodes blocks met.nodes []) names) as (λ _. ℕ) [ Err refusal ↦ 0 | Ok birth ↦ zone_in met.nodes birth index ]
 
+-- the same, where a walk has gone through these blocks
 abbrev pub zone_on_path : Geometry → List (List ℕ) → List (List ℕ) → ℕ → ℕ
 zone_on_path g blocks names index = zone_in_walk blocks (walked g blocks) names index
 
@@ -68,6 +71,7 @@ history_of room width events cut place = record {
 
 -- ---- barrier and sync calls
 
+-- the call is on the node to which its path leads; none where it leads to none
 abbrev pub on_node : Tree → List ℕ → ℕ → Bool → Option BegunCall
 on_node tree path begin metadata =
     elim (walk_path tree path) as (λ _. Option BegunCall) [ Err reply ↦ None | Ok node ↦ Some (record { begin = begin; file = Some node.birth; metadata = metadata }) ]
