@@ -35,10 +35,12 @@ use Rattle.flush_actor.specs.declared.wait.Wait.{Wait}
 
 -- ---- a step and what it answers
 
+-- the host after a caller's step, and what this answers
 pub record Stepped (V C R : Type 0) : Type 0 where
   pub host : Host V C R
   pub step : Step R
 
+-- the host after a step of an actor, and what this answers
 pub record Turned (V C R : Type 0) : Type 0 where
   pub host : Host V C R
   pub turn : Turn
@@ -58,10 +60,12 @@ pub data Goal : Type 0 where
   AnswerOk : Goal
   AwaitLastPut : Goal
 
+-- of a data call where no transaction that is not submitted changed its file; `sent` says that it sent a barrier
 abbrev pub data_goal : CallKind → Bool → ℕ → Goal
 data_goal DataSync sent running = AwaitLastPut
 data_goal other sent running = if sent then AnswerOk else AwaitCommit running
 
+-- a call that is no data call waits for the running transaction
 abbrev pub goal_of : JournalPart → Begun → Goal
 goal_of j b =
     if is_data b.kind then
@@ -84,6 +88,7 @@ module _ {T V C R : Type 0} (M : Model T V C R) (u : Setup) where
   abbrev pub with_running : Host V C R → Running → Host V C R
   with_running s r = record s { journal = record s.journal { running = r } }
 
+  -- the running transaction is to be closed
   abbrev pub wanting : Host V C R → Host V C R
   wanting s = with_running s (record s.journal.running { wanted = true })
 
@@ -98,6 +103,7 @@ module _ {T V C R : Type 0} (M : Model T V C R) (u : Setup) where
   send_page s p ordered barrier =
       put_out (record s { pages = put_page s.pages (marked p (if ordered then Firm else Loose)) }) (notes.Page p.birth p.index p.version) p.block p.body ordered barrier
 
+  -- a request of a plan goes out in order
   abbrev pub send_planned : Host V C R → Planned → Host V C R
   send_planned s p = put_out s p.note p.block p.body true p.barrier
 
@@ -107,6 +113,7 @@ module _ {T V C R : Type 0} (M : Model T V C R) (u : Setup) where
   abbrev pub set_wait : Host V C R → ℕ → Wait → Host V C R
   set_wait s t w = with_flush s (record s.journal.flush { waits = set s.journal.flush.waits t w })
 
+  -- the history has one entry more
   abbrev pub note_entry : Host V C R → ℕ → C → What R → Host V C R
   note_entry s t c what = record s { history = s.history ++ record { thread = t; call = c; what = what } ∷ [] }
 
@@ -114,12 +121,14 @@ module _ {T V C R : Type 0} (M : Model T V C R) (u : Setup) where
   abbrev pub end_call : Host V C R → ℕ → C → List C → Ending R → Host V C R
   end_call s t c rest e = set_wait (set_thread (note_entry s t c (Ends e)) t (record { calls = rest; begun = None })) t no_wait
 
+  -- what the step answers where this ended the call
   abbrev pub ended_by : Ending R → Step R
   ended_by (Answered r) = outcomes.Done r
   ended_by Down = outcomes.Down
   ended_by (ReadOnly id) = outcomes.ReadOnly id
   ended_by SessionFull = outcomes.SessionFull
 
+  -- the call ends so, and the step answers it
   abbrev pub end_with : Host V C R → ℕ → C → List C → Ending R → Stepped V C R
   end_with s t c rest e = record { host = end_call s t c rest e; step = ended_by e }
 
@@ -130,16 +139,19 @@ module _ {T V C R : Type 0} (M : Model T V C R) (u : Setup) where
   dropped_pages pages [] = pages
   dropped_pages pages (d ∷ ds) = dropped_pages (drop_page pages d.birth d.index) ds
 
+  -- each is dirty then, with the bytes of its block, and its version is n
   abbrev pub written_pages : V → ℕ → List CachedPage → List FileBlock → List CachedPage
   written_pages v n pages [] = pages
   written_pages v n pages (w ∷ ws) =
       written_pages v n (put_page pages (record { birth = w.birth; index = w.index; block = w.block; body = M.bytes v w.block; version = n; state = Dirty })) ws
 
+  -- a written block that had no page before has its zone from transaction k
   abbrev pub taken_zones : ℕ → List CachedPage → List ℕ → List FileBlock → List ℕ
   taken_zones k pages owners [] = owners
   taken_zones k pages owners (w ∷ ws) =
       taken_zones k pages (if is_none (page_at pages w.birth w.index) then set owners w.block k else owners) ws
 
+  -- what the transaction has to log, where a revoked block is not logged, and which nodes it changed
   abbrev pub touch : Touched → Running → Running
   touch t r = record {
     number = r.number;
@@ -162,6 +174,7 @@ module _ {T V C R : Type 0} (M : Model T V C R) (u : Setup) where
         owners = taken_zones s.journal.running.number s.pages s.owners a.touched.pages;
       }
 
+  -- it can still grow by one call more
   abbrev pub fits : Running → Bool
   fits r = nat_le (log_blocks_for u.writers (length r.touched + u.zmap + 12) (length r.revoked + 520)) u.quota
 
@@ -184,6 +197,7 @@ module _ {T V C R : Type 0} (M : Model T V C R) (u : Setup) where
       if nat_lt (length (filter (λ (z : Freed). nat_lt z.transaction s.journal.running.number) (M.zones s.volume).waiting)) lacks then wanting s else s
   hindered s other = s
 
+  -- it waits where something hinders it, and ends where it cannot wait; else it is done and answered
   abbrev pub plain : Host V C R → ℕ → C → List C → Stepped V C R
   plain s t c rest =
       elim (hindrance s c) as (λ _. Stepped V C R) [
@@ -200,6 +214,7 @@ module _ {T V C R : Type 0} (M : Model T V C R) (u : Setup) where
   listed pages kind file =
       map (λ (p : CachedPage). (p.birth, p.index)) (filter (λ (p : CachedPage). is_unsent p.state && (is_whole kind || p.birth == file)) pages)
 
+  -- the call has begun, and the pages that it is to pass are fixed
   abbrev pub begin : Host V C R → ℕ → C → List C → Stepped V C R
   begin s t c rest =
       let kind = M.kind c in
@@ -260,6 +275,7 @@ module _ {T V C R : Type 0} (M : Model T V C R) (u : Setup) where
             }
       ]
 
+  -- it waits for the request or the transaction that is fixed; until one is, it sends its pages
   abbrev pub continue_begun : Bool → Host V C R → ℕ → C → List C → Wait → Begun → Stepped V C R
   continue_begun full s t c rest w b =
       elim w.need as (λ _. Stepped V C R) [
@@ -276,6 +292,7 @@ module _ {T V C R : Type 0} (M : Model T V C R) (u : Setup) where
       else if is_reading kind then None
       else option_map ReadOnly (first_failed taken)
 
+  -- one that has begun goes on; any other is refused, begins or is plain
   abbrev pub step_call : Bool → Host V C R → ℕ → Option Begun → C → List C → Stepped V C R
   step_call full s t (Some b) c rest = continue_begun full s t c rest (slice_index_or s.journal.flush.waits t no_wait) b
   step_call full s t None c rest =
@@ -284,6 +301,7 @@ module _ {T V C R : Type 0} (M : Model T V C R) (u : Setup) where
         | None ↦ if is_begun (M.kind c) then begin s t c rest else plain s t c rest
       ]
 
+  -- a cut ends the call, and so does a failure, but not where the call is a reading one
   abbrev pub step_thread : Bool → Host V C R → ℕ → Option Begun → List C → Stepped V C R
   step_thread full s t begun [] = record { host = s; step = outcomes.Ended }
   step_thread full s t begun (c ∷ rest) =
@@ -292,6 +310,7 @@ module _ {T V C R : Type 0} (M : Model T V C R) (u : Setup) where
         | None ↦ step_call full s t begun c rest
       ]
 
+  -- one step of thread t, which is counted from 0; where there is none, it has ended
   abbrev pub advance : Bool → Host V C R → ℕ → Stepped V C R
   advance full s t =
       elim (slice_get s.threads t) as (λ _. Stepped V C R) [
@@ -355,10 +374,12 @@ module _ {T V C R : Type 0} (M : Model T V C R) (u : Setup) where
         volume = M.release s.volume k;
       }
 
+  -- `first` goes out; with the last one, which is the commit block, the transaction is committed
   abbrev pub plan_sent : Host V C R → Plan → Planned → List Planned → Host V C R
   plan_sent s p first [] = committed (send_planned s first) (s.journal.running.number - 1) (length s.journal.flush.requests) p
   plan_sent s p first (q ∷ qs) = send_planned (record s { journal = record s.journal { phase = Committing (record p { rest = q ∷ qs }) } }) first
 
+  -- a step of the commit actor in this phase
   abbrev pub in_phase : Bool → Host V C R → Phase → Turned V C R
   in_phase full s Idle =
       if s.journal.running.wanted && is_none (least s.journal.flush.conflicts) then record { host = record s { journal = record s.journal { phase = Closing } }; turn = turns.Did }
@@ -367,6 +388,7 @@ module _ {T V C R : Type 0} (M : Model T V C R) (u : Setup) where
   in_phase full s (Committing p) =
       elim p.rest as (λ _. Turned V C R) [ [] ↦ record { host = s; turn = turns.Idle } | first ∷ rest ↦ submits full s (plan_sent s p first rest) ]
 
+  -- nothing is done after a cut or a failure
   abbrev pub commit_step : Bool → Host V C R → Turned V C R
   commit_step full s = if is_over s.journal.flush then record { host = s; turn = turns.Idle } else in_phase full s s.journal.phase
 

@@ -30,6 +30,7 @@ pub record Zones : Type 0 where
   pub free : List ℕ
   pub waiting : List Freed
 
+-- what a call leaves and answers, and what it did to the volume
 pub record Applied (V R : Type 0) : Type 0 where
   pub volume : V
   pub reply : R

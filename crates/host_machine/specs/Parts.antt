@@ -33,6 +33,7 @@ module _ {T V C R : Type 0} (M : Model T V C R) (u : Setup) where
     turn = t.turn;
   }
 
+  -- a step of the commit actor, from the phase in which the host is
   abbrev pub with_commit : Host V C R → CommitTurn → Turned V C R
   with_commit s t = commit_from s.journal.phase s t
 

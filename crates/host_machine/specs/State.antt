@@ -15,10 +15,12 @@ pub data Ending (R : Type 0) : Type 0 where
   ReadOnly : ℕ → Ending R
   SessionFull : Ending R
 
+-- what an entry notes: a barrier or sync call has begun, or a call has ended
 pub data What (R : Type 0) : Type 0 where
   Begins : What R
   Ends : Ending R → What R
 
+-- threads are counted from 0
 pub record Entry (C R : Type 0) : Type 0 where
   pub thread : ℕ
   pub call : C
@@ -42,6 +44,7 @@ pub record Thread (C : Type 0) : Type 0 where
 
 -- ---- all
 
+-- V are volumes, C calls and R their replies
 pub record Host (V C R : Type 0) : Type 0 where
   pub journal : JournalPart
   pub volume : V

@@ -34,6 +34,7 @@ waits_for [] z = None
 waits_for (w ∷ ws) z = if w.zone == z then Some w.transaction else waits_for ws z
 
 module _ {T V C R : Type 0} (M : Model T V C R) where
+  -- the tree after entry n, by the tree before it; only an answered call acts on it
   abbrev pub acted : T → ℕ → Entry C R → T
   acted t n e = if is_answered e.what then M.call t n e.call else t
 
@@ -67,9 +68,11 @@ module _ {T V C R : Type 0} (M : Model T V C R) where
   abbrev pub bodies_now : V → List ℕ → List Logged
   bodies_now v blocks = map (λ b. record { block = b; body = M.bytes v b }) blocks
 
+  -- as if it were closed now
   abbrev pub running_transaction : V → Running → Transaction
   running_transaction v r = record { bodies = bodies_now v r.touched; revokes = r.revoked }
 
+  -- `txs` are the closed transactions, and `reserved` is the metadata of the base image
   abbrev pub session_of : Setup → List (List ℕ) → Format → List ℕ → List Transaction → Host V C R → Session
   session_of u base format reserved txs s = record {
     base = base;

@@ -28,6 +28,7 @@ abbrev pub AreBegun : {C : Type 0} → (C → CallKind) → List (Thread C) → 
 AreBegun {C = C} kind threads = (th : Thread C) (c : C) (rest : List C) (b : Begun) → In th threads → th.calls ≡ c ∷ rest → th.begun ≡ Some b → is_begun (kind c) ≡ true
 
 module _ {A T V C R : Type 0} (o : Over A T V C R) where
+  -- the host after this step, whatever the step answers
   abbrev pub stepped : Host V C R → Event → Host V C R
   stepped s (Call full t) = (advance o.model o.setup full s t).host
   stepped s (Commit full) = (commit_step o.model o.setup full s).host
