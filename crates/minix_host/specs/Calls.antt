@@ -50,11 +50,13 @@ path_of_call calls.Sync = None
 abbrev pub birth_on : Tree → List ℕ → ℕ
 birth_on tree path = elim (walk_path tree path) as (λ _. ℕ) [ Err reply ↦ 0 | Ok found ↦ found.birth ]
 
+-- a call without a path has the root's birth
 abbrev pub node_of : VolumeNow → Call → ℕ
 node_of v c = elim (path_of_call c) as (λ _. ℕ) [ None ↦ 0 | Some path ↦ birth_on (tree_of_now v) path ]
 
 -- ---- what a call is told before it is done
 
+-- the reply of a call that the tree refuses; none where it does not
 abbrev pub refused_by : Row → Option Reply
 refused_by (Err why) = Some why
 refused_by (Ok done) = None
@@ -88,9 +90,11 @@ would_change v other = false
 abbrev pub file_block : Page → FileBlock
 file_block x = record { birth = x.birth; index = x.index; block = x.zone }
 
+-- what a call did to the volume, as the host reads it
 abbrev pub told : Touched → host.Touched
 told t = record { blocks = t.blocks; freed = t.freed; revoked = t.revoked; pages = map file_block t.pages; dropped = map file_block t.dropped; nodes = t.nodes }
 
+-- what a call left and answered, as the host reads it
 abbrev pub applied : Called → Applied VolumeNow Reply
 applied c = record { volume = c.change.volume; reply = c.reply; touched = told c.change.touched }
 

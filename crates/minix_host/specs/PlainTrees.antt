@@ -11,6 +11,7 @@ use Rattle.crash_laws.specs.LegalHistory.{root_alone}
 use Rattle.minix_host.specs.Numbers.{next_birth, number_in}
 use Rattle.minix_host.specs.laws.Numbers.{outcome_plain}
 
+-- a tree, with the proof that it is plain
 pub record PlainTree : Type 0 where
   pub tree : Tree
   pub plain : IsPlain tree

@@ -34,9 +34,11 @@ use Rattle.minix_host.specs.Sessions.{Opening, over, HasRoot, Stands}
 abbrev pub acting : {C : Type 0} → (C → Call) → Entry C Reply → Option Call
 acting call_of e = if is_answered e.what then Some (call_of e.call) else None
 
+-- none where the entry does not act on the tree
 abbrev pub call_of_entry : Entry ByteCall Reply → Option Call
 call_of_entry e = acting (λ c. c.call) e
 
+-- one for each entry, so that both have the same numbers
 abbrev pub calls_of : List (Entry ByteCall Reply) → List (Option Call)
 calls_of es = map call_of_entry es
 

@@ -33,6 +33,7 @@ is_metadata v b = nat_lt b v.geometry.first || list_any (λ (e : ℕ × Placed).
 abbrev pub some_zone : ℕ → Option ℕ
 some_zone zone = if zone == 0 then None else Some zone
 
+-- none in a hole, and none of a directory
 abbrev pub zone_of_part : List (List ℕ) → Inode → Part → ℕ → Option ℕ
 zone_of_part blocks i (parts.Directory d) index = None
 zone_of_part blocks i (parts.File zones) index = some_zone (zone_in blocks i (block index))
