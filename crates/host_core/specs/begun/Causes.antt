@@ -3,6 +3,7 @@ use Rattle.host_answers.specs.declared.step.Cause.{Cause}
 use Rattle.host_answers.specs.declared.step.Cause.TheVariants as answers
 use Rattle.host_machine.specs.Causes as causes
 
+-- the block comes before its holder in both
 abbrev pub cause_is : Cause → causes.Cause
 cause_is answers.Closing = causes.Closing
 cause_is (answers.TxFull blocks) = causes.TxFull blocks

@@ -15,6 +15,7 @@ use Rattle.host_core.specs.declared.thread.Thread.{Thread}
 abbrev pub thread_of : Thread → machine.Thread Call
 thread_of t = record { calls = drop t.ended t.program.items; begun = t.begun }
 
+-- all calls of the thread, with those that have ended
 abbrev pub program_of : Thread → List Call
 program_of t = t.program.items
 

@@ -70,6 +70,7 @@ progress_of_plain (plain.Answered reply) = Over (Answered reply)
 progress_of_plain plain.Full = Over SessionFull
 progress_of_plain (plain.Waits cause) = Waits cause
 
+-- the step of a plain call, as one of all calls
 abbrev pub went_plainly : plain.Went → Went
 went_plainly w = record { parts = w.parts; progress = progress_of_plain w.progress }
 
@@ -106,10 +107,12 @@ steps_call full w zmap most p n t begun c =
 
 -- ---- what the code found, of a begun call with this list of pages
 
+-- the pages that the call has still to pass; none where it has not begun
 abbrev pub list_of : Option Begun → List (ℕ × ℕ)
 list_of None = []
 list_of (Some b) = b.list
 
+-- how far it came, with this list of pages
 abbrev pub progress_is : List (ℕ × ℕ) → CallProgress → Progress
 progress_is list (found.Answered answer) = Over (Answered answer)
 progress_is list found.Done = Over (Answered replies.Ok)
