@@ -12,6 +12,7 @@ module _ {C D : Type 0} (f : C → D) where
   abbrev pub thread_as : Thread C → Thread D
   thread_as th = record { calls = map f th.calls; begun = th.begun }
 
+  -- the calls in its history and of its threads are seen so, and all else is as it was
   abbrev pub host_as : {V R : Type 0} → Host V C R → Host V D R
   host_as s = record {
     journal = s.journal;
