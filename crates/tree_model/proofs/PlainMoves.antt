@@ -24,21 +24,11 @@ use Rattle.tree_model.proofs.Hanging.{Edges, IsReached, top, by_edge, IsJoined, 
 use Rattle.tree_model.proofs.Plain.{IsOfWidth, edge_of, up_of, seen_of, links_of, is_other, IsWhole, one_for, one_at, one_for_here, one_for_other, edge_counts, counted_edge, names_at, names_to_put, gives_edge}
 use Rattle.tree_model.proofs.Edits.{IsLike, like_itself, like_chain, like_file, like_stays, like_put, like_put_apart, each_put, each_without, IsAt, at_or_apart, edge_put_same, edge_without, give_here, give_split, give_kept, give_like, take_split, take_kept, take_like, give_counts, take_counts, put_counts, without_counts}
 use Rattle.tree_model.proofs.PlainCalls.{place_of_width, of_width_with, of_width_without, good_name, links_through, place_sorted}
-use Rattle.tree_model.proofs.PlainNames.{directory_not_file, taken_counts, taken_order, taken_names_in_order}
+use Rattle.tree_model.proofs.PlainNames.{names_moved, links_moved, directory_not_file, taken_counts, taken_order, taken_names_in_order}
 
 -- ---- nodes that move
 
--- the same names and links
-names_moved : (parent : ℕ) (node : Node) → names_of (Some (moved_node parent node)) ≡ names_of (Some node)
-names_moved parent (nodes.Directory d) = refl
-names_moved parent (nodes.File f) = refl
-names_moved parent (nodes.Other mode) = refl
-
-links_moved : (parent : ℕ) (node : Node) → links_of (Some (moved_node parent node)) ≡ links_of (Some node)
-links_moved parent (nodes.Directory d) = refl
-links_moved parent (nodes.File f) = refl
-links_moved parent (nodes.Other mode) = refl
-
+-- it is of the same kind
 other_moved : (parent : ℕ) (node : Node) → is_other (Some (moved_node parent node)) ≡ is_other (Some node)
 other_moved parent (nodes.Directory d) = refl
 other_moved parent (nodes.File f) = refl

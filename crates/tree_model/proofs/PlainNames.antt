@@ -12,7 +12,7 @@ use Rattle.tree_model.specs.laws.MapsLaws.{at_put_number, at_put_number_apart}
 use Rattle.tree_model.specs.laws.Listing.{names_of}
 use Rattle.tree_model.specs.Trees.{is_directory, node_of_path}
 use Rattle.tree_model.proofs.Effects.{led_kept, place_leads}
-use Rattle.tree_model.specs.Calls.{Tree, Done, Place, with_name, without_name, give_name, take_name, put_file, with_links}
+use Rattle.tree_model.specs.Calls.{Tree, Done, Place, with_name, without_name, give_name, take_name, put_file, with_links, moved_node}
 use Rattle.tree_model.specs.Plain.{names_to}
 use Rattle.tree_model.specs.laws.MapOrder.{InOrder, in_order_put, in_order_without, at_put_cases, at_without_cases, at_without_here, NamesInOrder, names_in_order_put, names_in_order_without}
 use Rattle.tree_model.proofs.Rows.{IsPlace, place_names}
@@ -21,6 +21,17 @@ use Rattle.tree_model.proofs.Hanging.{IsReached, by_edge, IsJoined, fewer_joined
 use Rattle.tree_model.proofs.Plain.{IsOfWidth, whole_plain, edge_of, seen_of, links_of, is_other, IsWhole, one_for, one_at, one_for_here, one_for_other, edge_counts, counted_edge}
 use Rattle.tree_model.proofs.Edits.{give_here, IsLike, like_chain, like_file, like_stays, like_put, like_without, each_put, each_without, at_or_apart, edge_put_same, edge_without, give_split, give_kept, give_like, take_split, take_kept, take_like, give_counts, take_counts, put_counts, without_counts}
 use Rattle.tree_model.proofs.PlainCalls.{place_of_width, of_width_with, of_width_without, good_name, links_through, no_name, none_named, place_sorted}
+
+-- a node that moves has the same names and links
+pub names_moved : (parent : ℕ) (node : Node) → names_of (Some (moved_node parent node)) ≡ names_of (Some node)
+names_moved parent (nodes.Directory d) = refl
+names_moved parent (nodes.File f) = refl
+names_moved parent (nodes.Other mode) = refl
+
+pub links_moved : (parent : ℕ) (node : Node) → links_of (Some (moved_node parent node)) ≡ links_of (Some node)
+links_moved parent (nodes.Directory d) = refl
+links_moved parent (nodes.File f) = refl
+links_moved parent (nodes.Other mode) = refl
 
 pub directory_not_file : (tree : Tree) (a b : ℕ) (d : Directory) (f : File) → at_number tree a ≡ Some (nodes.Directory d) → at_number tree b ≡ Some (nodes.File f) → a ≢ b
 directory_not_file tree a b d f h j e = true≢false (sym (ap is_directory h) ∙ (ap (λ x. is_directory (at_number tree x)) e ∙ ap is_directory j))
