@@ -37,6 +37,7 @@ pub record FlogState : Type 0 where
   pub limit : ℕ
   pub cut_at : Option ℕ
   pub told : Bool
+  -- the number of the transfer that fails, counted from 1, and how many transfers were made
   pub fail_at : Option ℕ
   pub transfers_made : ℕ
   -- a transfer failed; how many did

@@ -45,7 +45,7 @@ pub record Turned (V C R : Type 0) : Type 0 where
   pub host : Host V C R
   pub turn : Turn
 
--- a list's elements that are there
+-- the first page on the list that is still to be sent, with the keys behind it
 abbrev pub unsent_on : List CachedPage → List (ℕ × ℕ) → Option (CachedPage × List (ℕ × ℕ))
 unsent_on pages [] = None
 unsent_on pages (k ∷ ks) =

@@ -35,13 +35,13 @@ home_writes id (h ∷ hs) = write id h (length hs == 0) ∷ home_writes (id + 1)
 abbrev pub ending : ℕ → Logged → List Command
 ending id superblock = write id superblock true ∷ flush (id + 1) ∷ []
 
--- the bodies that marks leave, in rising order of block, of n blocks from i on
+-- what the mark of block i leaves: the body that was set last, if any
 abbrev pub home_of : ℕ → Mark → List Logged
 home_of i Keep = []
 home_of i Clear = []
 home_of i (Set x) = for_block i x ∷ []
 
--- the bodies to be written home, of n blocks from i on
+-- the bodies that marks leave, in rising order of block, of n blocks from i on
 abbrev pub homes : (ℕ → Mark) → ℕ → ℕ → List Logged
 homes m i zero = []
 homes m i (suc n) = home_of i (m i) ++ homes m (i + 1) n

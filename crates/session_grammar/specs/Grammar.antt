@@ -122,7 +122,7 @@ first_line (Some w) ws = known_first w ws
 
 -- ---- where the other lines may stand
 
--- the device takes requests by itself in this kind of script
+-- the event `submit`, which this kind of script has not: its host submits by itself
 abbrev pub is_submit : EventFirst → Bool
 is_submit (event.Plain plain.Submit) = true
 is_submit w = false

@@ -9,10 +9,11 @@ use Rattle.tree_model.specs.declared.node.Node.TheVariants as nodes
 use Rattle.tree_model.specs.declared.node.File.{File}
 use Rattle.tree_model.specs.Maps.{at_number, put_number, without_number}
 
--- a byte of a name: as it is, or where it is a space, no printable ASCII or the backslash, by its hexadecimal digits
+-- printable ASCII but for the space and the backslash
 abbrev pub is_plain : ℕ → Bool
 is_plain b = nat_le 33 b && (nat_le b 126 && not (b == 92))
 
+-- a byte of a name: as it is where it is plain, and else by its hexadecimal digits
 abbrev pub byte_text : ℕ → List ℕ
 byte_text b = if is_plain b then b ∷ [] else codes "\\x" ++ hex_text b
 

@@ -50,7 +50,7 @@ abbrev pub scan_used : Geometry → ℕ → SlotScan → Option Slot → Reads (
 scan_used g zone s None = Ret (Ok s)
 scan_used g zone s (Some slot) = if is_dot slot.name then Ret (Ok s) else scan_entry g zone slot s
 
--- one slot of 16 bytes
+-- one slot, of 16 or 32 bytes
 abbrev pub scan_slot : Geometry → ℕ → List ℕ → SlotScan → Reads (Result SlotScan Fault)
 scan_slot g zone bytes s =
     elim (slot_of g.width bytes) as (λ _. Reads (Result SlotScan Fault))
@@ -61,7 +61,7 @@ abbrev pub scan_places : Geometry → ℕ → List ℕ → List ℕ → SlotScan
 scan_places g zone body [] s = Ret (Ok s)
 scan_places g zone body (at ∷ ats) s = if_ok (scan_slot g zone (record_at (slot_size g.width) at body) s) (scan_places g zone body ats)
 
--- a mapped block of a directory with so many slots, 64 in each block; those at and past the size are not read
+-- a mapped block of a directory with so many slots; those at and past the size are not read
 abbrev pub scan_block : Geometry → ℕ → Mapped → SlotScan → Reads (Result SlotScan Fault)
 scan_block g slots block s =
     if nat_lt (slots_a_block g.width * block.index) slots

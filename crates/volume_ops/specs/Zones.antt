@@ -17,7 +17,7 @@ pub record ZoneScan : Type 0 where
   pub met : List Bool
   pub mapped : List Mapped
 
--- A zone is taken once, and lies in the zones of data. A fault is told at the block that holds its number.
+-- a zone that was met before, or does not lie in the zones of data
 abbrev pub is_bad_zone : Geometry → ℕ → List Bool → Bool
 is_bad_zone g zone met = nat_lt zone g.first || (nat_le g.zones zone || is_marked met zone)
 

@@ -171,12 +171,12 @@ put_name_slot v n name birth = at_directory v n (λ p d. at_node v birth (λ chi
 abbrev pub add_name : VolumeNow → ℕ → List ℕ → ℕ → Change
 add_name v n name birth = followed_by (make_room v n) (λ w. put_name_slot w n name birth)
 
--- the place of a name among the slots, if it is there
+-- the slot has this name
 abbrev pub has_name : List ℕ → Option Slot → Bool
 has_name name None = false
 has_name name (Some s) = bytes_eq s.name name
 
--- counted from 0; as many as there are slots where none has the name
+-- the place of a name among the slots, counted from 0; the number of slots where none has the name
 abbrev pub place_of : List ℕ → List (Option Slot) → ℕ
 place_of name [] = 0
 place_of name (s ∷ slots) = if has_name name s then 0 else 1 + place_of name slots

@@ -196,9 +196,10 @@ abbrev pub all_beyond : Geometry → List (List ℕ) → List (ℕ × Directory)
 all_beyond g blocks [] = 0
 all_beyond g blocks (e ∷ es) = beyond (inode_at g blocks e.0) blocks (zones_needed (length e.1.names)) + all_beyond g blocks es
 
--- some directory needs more than 519 zones of data, or all of them need more beyond their own than are free
+-- some directory needs more than 519 zones of data
 abbrev pub has_too_many : List (ℕ × Directory) → Bool
 has_too_many es = list_any (λ e. nat_lt 519 (zones_needed (length e.1.names))) es
 
+-- that, or all of them need more beyond their own than are free
 abbrev pub has_no_room : Geometry → List (List ℕ) → List (ℕ × Directory) → List ℕ → Bool
 has_no_room g blocks es free = has_too_many es || nat_lt (length free) (all_beyond g blocks es)

@@ -31,7 +31,7 @@ pub record IsAtRest (l : LogState) : Type 0 where
   pub numbered : l.running.number ≤ length l.flush.requests + 1
   pub waiting : length l.ring.homes ≤ length l.flush.requests
 
--- the same when the plan is done
+-- what holds while log blocks of a plan are still to be sent
 pub record IsOnItsWay (l : LogState) (s : Sending) : Type 0 where
   pub closed : 2 ≤ l.running.number
   pub numbered : l.running.number ≤ length l.flush.requests + 2

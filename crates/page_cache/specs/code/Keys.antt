@@ -7,7 +7,7 @@ use Rattle.page_cache.specs.declared.cached_page.CachedPage.{CachedPage}
 use Rattle.page_cache.specs.declared.cached_page.PageState.{PageState}
 use Rattle.page_cache.specs.Pages.{key_of}
 
--- the keys of the pages that were sent in such a way, in order
+-- the keys of the pages in such a state, in order
 abbrev pub keys_where : (PageState → Bool) → List CachedPage → List (ℕ × ℕ)
 keys_where test ps = map key_of (filter (λ (p : CachedPage). test p.state) ps)
 
@@ -54,7 +54,7 @@ abbrev pub is_key_in : Option ℕ → ℕ × ℕ → Bool
 is_key_in None k = true
 is_key_in (Some f) k = k.0 == f
 
--- the first key of the file from (f, from) on
+-- a key of another file is none
 abbrev pub if_in : ℕ → Option (ℕ × ℕ) → Option (ℕ × ℕ)
 if_in f None = None
 if_in f (Some k) = if k.0 == f then Some k else None

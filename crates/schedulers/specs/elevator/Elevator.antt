@@ -29,7 +29,7 @@ pub record ElevatorState : Type 0 where
 
 -- ---- the list
 
--- the block of a put
+-- the block of a put; a flush counts as block 0
 abbrev pub block_of : Kind → ℕ
 block_of (Put block body) = block
 block_of Flush = 0
@@ -64,7 +64,7 @@ pub record Gathering : Type 0 where
   pub queue : EpochState
   pub command : Command
 
--- a put of this block, order-preserving exactly where the flag says so
+-- a put of this block
 abbrev pub is_put_of : ℕ → Kind → Bool
 is_put_of block (Put b body) = b == block
 is_put_of block Flush = false
