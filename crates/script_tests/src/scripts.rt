@@ -83,136 +83,141 @@ fn repeated(alloc: Global, head: &str, line: &str, count: u32) -> Result<Vec<u8>
     Ok(text)
 }
 
+const UNKNOWN_WORDS: [Row; 11] = [
+    ("devise 4\n", 1, Word),
+    ("Device 4\n", 1, Word),
+    ("names 4\n", 1, Word),
+    ("device 4\ntags 3\n", 2, Word),
+    ("device 4\nflsh\n", 2, Word),
+    ("device 4\nDepth 4\n", 2, Word),
+    ("device 4\ndepth4\n", 2, Word),
+    ("blocks 4\nflush\nputs 0 1a free\n", 3, Word),
+    ("blocks 4\nevents\nstore 8\n", 3, Word),
+    ("blocks 4\nevents\nsubmits\n", 3, Word),
+    ("device 4\nflsh\ndepth 0\n", 2, Word),
+];
+
 #[test]
 fn knows_first_words(rt: HostRuntime) {
-    let rows = [
-        ("devise 4\n", 1, Word),
-        ("Device 4\n", 1, Word),
-        ("names 4\n", 1, Word),
-        ("device 4\ntags 3\n", 2, Word),
-        ("device 4\nflsh\n", 2, Word),
-        ("device 4\nDepth 4\n", 2, Word),
-        ("device 4\ndepth4\n", 2, Word),
-        ("blocks 4\nflush\nputs 0 1a free\n", 3, Word),
-        ("blocks 4\nevents\nstore 8\n", 3, Word),
-        ("blocks 4\nevents\nsubmits\n", 3, Word),
-        ("device 4\nflsh\ndepth 0\n", 2, Word),
-    ];
-    expect_faults(&rt, rt.alloc(), &rows);
+    expect_faults(&rt, rt.alloc(), &UNKNOWN_WORDS);
 }
+
+const WRONG_WORDS: [Row; 26] = [
+    ("device\n", 1, Word),
+    ("device 4 5\n", 1, Word),
+    ("blocks\n", 1, Word),
+    ("blocks four\n", 1, Word),
+    ("device 4\ndepth\n", 2, Word),
+    ("device 4\ndepth 4 4\n", 2, Word),
+    ("blocks 4\nqueue\n", 2, Word),
+    ("blocks 4\nqueue 4 4\n", 2, Word),
+    ("blocks 4\ncut none\n", 2, Word),
+    ("device 4\nput 0 1A ordered\n", 2, Word),
+    ("device 4\nput 0 1 free\n", 2, Word),
+    ("device 4\nput 0 01a free\n", 2, Word),
+    ("device 4\nput 0 1a\n", 2, Word),
+    ("device 4\nput 0 1a strong\n", 2, Word),
+    ("device 4\nput 4 1a strong\n", 2, Word),
+    ("device 4\nflush 0\n", 2, Word),
+    ("device 4\nevents x\n", 2, Word),
+    ("device 4\nevents\nreceive 3\n", 3, Word),
+    ("device 4\nevents\nreceive x 3 3\n", 3, Word),
+    ("device 4\nevents\ntransfer\n", 3, Word),
+    ("device 4\nevents\ntransfer 0 x\n", 3, Word),
+    ("device 4\nevents\npersist 0 y 3\n", 3, Word),
+    ("blocks 4\nevents\nsubmit 3\n", 3, Word),
+    ("blocks 4\nevents\naccept x\n", 3, Word),
+    ("blocks 4\nevents\ndispatch\n", 3, Word),
+    ("blocks 4\nevents\ndispatch x 2\n", 3, Word),
+];
 
 #[test]
 fn counts_other_words(rt: HostRuntime) {
-    let rows = [
-        ("device\n", 1, Word),
-        ("device 4 5\n", 1, Word),
-        ("blocks\n", 1, Word),
-        ("blocks four\n", 1, Word),
-        ("device 4\ndepth\n", 2, Word),
-        ("device 4\ndepth 4 4\n", 2, Word),
-        ("blocks 4\nqueue\n", 2, Word),
-        ("blocks 4\nqueue 4 4\n", 2, Word),
-        ("blocks 4\ncut none\n", 2, Word),
-        ("device 4\nput 0 1A ordered\n", 2, Word),
-        ("device 4\nput 0 1 free\n", 2, Word),
-        ("device 4\nput 0 01a free\n", 2, Word),
-        ("device 4\nput 0 1a\n", 2, Word),
-        ("device 4\nput 0 1a strong\n", 2, Word),
-        ("device 4\nput 4 1a strong\n", 2, Word),
-        ("device 4\nflush 0\n", 2, Word),
-        ("device 4\nevents x\n", 2, Word),
-        ("device 4\nevents\nreceive 3\n", 3, Word),
-        ("device 4\nevents\nreceive x 3 3\n", 3, Word),
-        ("device 4\nevents\ntransfer\n", 3, Word),
-        ("device 4\nevents\ntransfer 0 x\n", 3, Word),
-        ("device 4\nevents\npersist 0 y 3\n", 3, Word),
-        ("blocks 4\nevents\nsubmit 3\n", 3, Word),
-        ("blocks 4\nevents\naccept x\n", 3, Word),
-        ("blocks 4\nevents\ndispatch\n", 3, Word),
-        ("blocks 4\nevents\ndispatch x 2\n", 3, Word),
-    ];
-    expect_faults(&rt, rt.alloc(), &rows);
+    expect_faults(&rt, rt.alloc(), &WRONG_WORDS);
 }
+
+const WRONG_SPACES: [Row; 21] = [
+    ("device 04\n", 1, Word),
+    ("device +4\n", 1, Word),
+    ("device -4\n", 1, Word),
+    ("device 4x\n", 1, Word),
+    ("device  4\n", 1, Word),
+    ("device 4 \n", 1, Word),
+    (" device 4\n", 1, Word),
+    (" # no comment\ndevice 4\n", 1, Word),
+    ("device\t4\n", 1, Word),
+    ("device 4\r\n", 1, Word),
+    ("device 4\n\r\n", 2, Word),
+    ("device 4\n \n", 2, Word),
+    ("device 4\nflüsh\n", 2, Word),
+    ("device 4\nflush é\n", 2, Word),
+    ("blocks 4\nqueue 04\n", 2, Word),
+    ("blocks 4\nqueue +4\n", 2, Word),
+    ("blocks 4\nput 00 1a free\n", 2, Word),
+    ("blocks 4\nevents\nsubmit \n", 3, Word),
+    ("blocks 4\nevents\nsubmit  x 2\n", 3, Word),
+    ("blocks 4\nevents\ndispatch 00\n", 3, Word),
+    ("blocks 4\nevents\naccept x 02\n", 3, Word),
+];
 
 #[test]
 fn parts_words_by_one_space(rt: HostRuntime) {
-    let rows = [
-        ("device 04\n", 1, Word),
-        ("device +4\n", 1, Word),
-        ("device -4\n", 1, Word),
-        ("device 4x\n", 1, Word),
-        ("device  4\n", 1, Word),
-        ("device 4 \n", 1, Word),
-        (" device 4\n", 1, Word),
-        (" # no comment\ndevice 4\n", 1, Word),
-        ("device\t4\n", 1, Word),
-        ("device 4\r\n", 1, Word),
-        ("device 4\n\r\n", 2, Word),
-        ("device 4\n \n", 2, Word),
-        ("device 4\nflüsh\n", 2, Word),
-        ("device 4\nflush é\n", 2, Word),
-        ("blocks 4\nqueue 04\n", 2, Word),
-        ("blocks 4\nqueue +4\n", 2, Word),
-        ("blocks 4\nput 00 1a free\n", 2, Word),
-        ("blocks 4\nevents\nsubmit \n", 3, Word),
-        ("blocks 4\nevents\nsubmit  x 2\n", 3, Word),
-        ("blocks 4\nevents\ndispatch 00\n", 3, Word),
-        ("blocks 4\nevents\naccept x 02\n", 3, Word),
-    ];
-    expect_faults(&rt, rt.alloc(), &rows);
+    expect_faults(&rt, rt.alloc(), &WRONG_SPACES);
 }
+
+const OUT_OF_ORDER: [Row; 28] = [
+    ("", 1, Order),
+    ("\n", 2, Order),
+    ("# one\n# two\n", 3, Order),
+    ("# one\n# two", 3, Order),
+    ("depth 4\n", 1, Order),
+    ("queue 4\n", 1, Order),
+    ("events\n", 1, Order),
+    ("submit\n", 1, Order),
+    ("transfer 0\n", 1, Order),
+    ("put 0 1a ordered\ndevice 4\n", 1, Order),
+    ("device 4\ndevice 4\n", 2, Order),
+    ("device 4\nblocks 4\n", 2, Order),
+    ("blocks 4\nevents\nblocks 4\n", 3, Order),
+    (
+        "device 4\nvolume inodes 32 zones 64 journal 128\n",
+        2,
+        Order,
+    ),
+    ("blocks 4\nevents\nvolume\n", 3, Order),
+    ("device 4\nflush\ndepth 4\n", 3, Order),
+    ("blocks 4\ndepth 4\nflush\ndepth 4\n", 4, Order),
+    ("blocks 4\nflush\nqueue 4\n", 3, Order),
+    ("device 4\nevents\ncut 4\n", 3, Order),
+    ("device 4\nreceive x x\nevents\n", 2, Order),
+    ("blocks 4\nflush\nsubmit\n", 3, Order),
+    ("device 4\nevents\nevents\n", 3, Order),
+    ("device 4\nevents\nflush\n", 3, Order),
+    ("device 4", 2, Order),
+    ("device 4\nflush\n", 3, Order),
+    ("device 4\nflush", 3, Order),
+    ("device 4\nflush\n\n", 4, Order),
+    ("blocks 4\nqueue 4\n# events\n", 4, Order),
+];
 
 #[test]
 fn keeps_the_order(rt: HostRuntime) {
-    let rows = [
-        ("", 1, Order),
-        ("\n", 2, Order),
-        ("# one\n# two\n", 3, Order),
-        ("# one\n# two", 3, Order),
-        ("depth 4\n", 1, Order),
-        ("queue 4\n", 1, Order),
-        ("events\n", 1, Order),
-        ("submit\n", 1, Order),
-        ("transfer 0\n", 1, Order),
-        ("put 0 1a ordered\ndevice 4\n", 1, Order),
-        ("device 4\ndevice 4\n", 2, Order),
-        ("device 4\nblocks 4\n", 2, Order),
-        ("blocks 4\nevents\nblocks 4\n", 3, Order),
-        (
-            "device 4\nvolume inodes 32 zones 64 journal 128\n",
-            2,
-            Order,
-        ),
-        ("blocks 4\nevents\nvolume\n", 3, Order),
-        ("device 4\nflush\ndepth 4\n", 3, Order),
-        ("blocks 4\ndepth 4\nflush\ndepth 4\n", 4, Order),
-        ("blocks 4\nflush\nqueue 4\n", 3, Order),
-        ("device 4\nevents\ncut 4\n", 3, Order),
-        ("device 4\nreceive x x\nevents\n", 2, Order),
-        ("blocks 4\nflush\nsubmit\n", 3, Order),
-        ("device 4\nevents\nevents\n", 3, Order),
-        ("device 4\nevents\nflush\n", 3, Order),
-        ("device 4", 2, Order),
-        ("device 4\nflush\n", 3, Order),
-        ("device 4\nflush", 3, Order),
-        ("device 4\nflush\n\n", 4, Order),
-        ("blocks 4\nqueue 4\n# events\n", 4, Order),
-    ];
-    expect_faults(&rt, rt.alloc(), &rows);
+    expect_faults(&rt, rt.alloc(), &OUT_OF_ORDER);
 }
+
+const LINES_OF_THE_SCHEDULER: [Row; 7] = [
+    ("device 4\nqueue 4\n", 2, Order),
+    ("device 4\nqueue 0\n", 2, Order),
+    ("device 4\nqueue x\n", 2, Order),
+    ("device 4\nevents\nsubmit\n", 3, Order),
+    ("device 4\nevents\naccept x 0\n", 3, Order),
+    ("device 4\nevents\ndispatch 0\n", 3, Order),
+    ("device 4\nevents\ndispatch\n", 3, Order),
+];
 
 #[test]
 fn keeps_the_scheduler_out_of_device_scripts(rt: HostRuntime) {
-    let rows = [
-        ("device 4\nqueue 4\n", 2, Order),
-        ("device 4\nqueue 0\n", 2, Order),
-        ("device 4\nqueue x\n", 2, Order),
-        ("device 4\nevents\nsubmit\n", 3, Order),
-        ("device 4\nevents\naccept x 0\n", 3, Order),
-        ("device 4\nevents\ndispatch 0\n", 3, Order),
-        ("device 4\nevents\ndispatch\n", 3, Order),
-    ];
-    expect_faults(&rt, rt.alloc(), &rows);
+    expect_faults(&rt, rt.alloc(), &LINES_OF_THE_SCHEDULER);
 }
 
 #[test]
@@ -235,123 +240,129 @@ fn knows_words_of_volumes(rt: HostRuntime) -> Result<(), Fail> {
     Ok(())
 }
 
+const TWO_HEADER_LINES: [Row; 7] = [
+    ("device 4\ndepth 4\ndepth 5\n", 3, Twice),
+    ("device 4\ndepth 4\ndepth x\n", 3, Twice),
+    ("device 4\ndepth 4\ndepth 0\n", 3, Twice),
+    ("blocks 4\nqueue 4\nqueue 4\n", 3, Twice),
+    ("blocks 4\nqueue 4\ndepth 4\nqueue 65\n", 4, Twice),
+    ("device 4\ncut 4\ndepth 4\ncut 4\n", 4, Twice),
+    ("blocks 4\ncut 0\n\n# one\ncut\n", 5, Twice),
+];
+
 #[test]
 fn tells_header_lines_twice(rt: HostRuntime) {
-    let rows = [
-        ("device 4\ndepth 4\ndepth 5\n", 3, Twice),
-        ("device 4\ndepth 4\ndepth x\n", 3, Twice),
-        ("device 4\ndepth 4\ndepth 0\n", 3, Twice),
-        ("blocks 4\nqueue 4\nqueue 4\n", 3, Twice),
-        ("blocks 4\nqueue 4\ndepth 4\nqueue 65\n", 4, Twice),
-        ("device 4\ncut 4\ndepth 4\ncut 4\n", 4, Twice),
-        ("blocks 4\ncut 0\n\n# one\ncut\n", 5, Twice),
-    ];
-    expect_faults(&rt, rt.alloc(), &rows);
+    expect_faults(&rt, rt.alloc(), &TWO_HEADER_LINES);
+}
+
+const BAD_FAIL_LINES: [Row; 11] = [
+    ("fail 1\n", 1, Order),
+    ("device 4\nevents\nfail 1\n", 3, Order),
+    ("blocks 4\nflush\nfail 1\n", 3, Order),
+    ("blocks 4\nfail 1\nfail\n", 3, Twice),
+    ("device 4\nfail 1\ncut 3\nfail 1\n", 4, Twice),
+    ("device 4\nfail\n", 2, Word),
+    ("device 4\nfail x\n", 2, Word),
+    ("blocks 4\nfail 1 2\n", 2, Word),
+    ("blocks 4\nfails 1\n", 2, Word),
+    ("device 4\nfail 0\n", 2, Number),
+    ("blocks 4\nfail 1000000001\n", 2, Number),
+];
+
+const FAIL_LINES: [(&str, Option<u64>); 3] = [
+    ("device 4\nfail 1\nevents\n", Some(1)),
+    (
+        "blocks 4\ncut 1\nfail 1000000000\ndepth 2\nevents\n",
+        Some(1_000_000_000),
+    ),
+    ("blocks 4\ncut 1\nevents\n", None),
+];
+
+// The header of a script.
+fn header_of(rt: &impl Abort, alloc: Global, text: &str) -> Header {
+    let found: Result<Script, _> = read(rt, alloc, text.as_bytes());
+    found.expect(rt, "no script").header
 }
 
 #[test]
-fn reads_the_line_of_a_failing_transfer(rt: HostRuntime) -> Result<(), Fail> {
-    let rows = [
-        ("fail 1\n", 1, Order),
-        ("device 4\nevents\nfail 1\n", 3, Order),
-        ("blocks 4\nflush\nfail 1\n", 3, Order),
-        ("blocks 4\nfail 1\nfail\n", 3, Twice),
-        ("device 4\nfail 1\ncut 3\nfail 1\n", 4, Twice),
-        ("device 4\nfail\n", 2, Word),
-        ("device 4\nfail x\n", 2, Word),
-        ("blocks 4\nfail 1 2\n", 2, Word),
-        ("blocks 4\nfails 1\n", 2, Word),
-        ("device 4\nfail 0\n", 2, Number),
-        ("blocks 4\nfail 1000000001\n", 2, Number),
-    ];
-    expect_faults(&rt, rt.alloc(), &rows);
-    for (text, fail) in [
-        ("device 4\nfail 1\nevents\n", Some(1)),
-        (
-            "blocks 4\ncut 1\nfail 1000000000\ndepth 2\nevents\n",
-            Some(1_000_000_000),
-        ),
-        ("blocks 4\ncut 1\nevents\n", None),
-    ] {
-        let script = read(&rt, rt.alloc(), text.as_bytes())?;
-        assert_eq!(rt; script.header.fail, fail, "{text}");
+fn reads_the_line_of_a_failing_transfer(rt: HostRuntime) {
+    expect_faults(&rt, rt.alloc(), &BAD_FAIL_LINES);
+    for (text, fail) in &FAIL_LINES {
+        assert_eq!(rt; header_of(&rt, rt.alloc(), text).fail, *fail, "{text}");
     }
-    Ok(())
 }
 
-#[test]
-fn reads_the_line_of_the_elevator(rt: HostRuntime) -> Result<(), Fail> {
-    let rows = [
-        ("elevator plain\n", 1, Order),
-        ("device 4\nelevator\n", 2, Order),
-        ("blocks 4\nflush\nelevator\n", 3, Order),
-        ("blocks 4\nelevator plain\n", 2, Word),
-        ("blocks 4\nelevator\nelevator plain\n", 3, Twice),
-    ];
-    expect_faults(&rt, rt.alloc(), &rows);
-    for (text, elevator) in [
-        ("blocks 4\nelevator\nevents\n", true),
-        ("blocks 4\nevents\n", false),
-    ] {
-        let script = read(&rt, rt.alloc(), text.as_bytes())?;
-        assert_eq!(rt; script.header.elevator, elevator, "{text}");
-    }
-    Ok(())
-}
+const BAD_ELEVATOR_LINES: [Row; 5] = [
+    ("elevator plain\n", 1, Order),
+    ("device 4\nelevator\n", 2, Order),
+    ("blocks 4\nflush\nelevator\n", 3, Order),
+    ("blocks 4\nelevator plain\n", 2, Word),
+    ("blocks 4\nelevator\nelevator plain\n", 3, Twice),
+];
 
 #[test]
-fn reads_the_line_of_the_flash_log(rt: HostRuntime) -> Result<(), Fail> {
-    let rows = [
-        ("flash 3\n", 1, Order),
-        ("device 4\nevents\nflash 3\n", 3, Order),
-        ("blocks 4\nflush\nflash 3\n", 3, Order),
-        ("blocks 4\nflash 3\nflash\n", 3, Twice),
-        ("device 4\nflash\n", 2, Word),
-        ("device 4\nflash x\n", 2, Word),
-        ("device 4\nflash 3 4\n", 2, Word),
-        ("device 4\nflash 2\n", 2, Number),
-        ("blocks 4\nflash 65\n", 2, Number),
-    ];
-    expect_faults(&rt, rt.alloc(), &rows);
-    for (text, flash) in [
-        ("device 4\nflash 3\nevents\n", Some(3)),
-        ("blocks 4\ncut 1\nflash 64\ndepth 2\nevents\n", Some(64)),
-        ("blocks 4\nevents\n", None),
-    ] {
-        let script = read(&rt, rt.alloc(), text.as_bytes())?;
-        assert_eq!(rt; script.header.flash, flash, "{text}");
-    }
-    Ok(())
+fn reads_the_line_of_the_elevator(rt: HostRuntime) {
+    expect_faults(&rt, rt.alloc(), &BAD_ELEVATOR_LINES);
+    let with = header_of(&rt, rt.alloc(), "blocks 4\nelevator\nevents\n").elevator;
+    let without = header_of(&rt, rt.alloc(), "blocks 4\nevents\n").elevator;
+    assert_eq!(rt; (with, without), (true, false));
 }
+
+const BAD_FLASH_LINES: [Row; 9] = [
+    ("flash 3\n", 1, Order),
+    ("device 4\nevents\nflash 3\n", 3, Order),
+    ("blocks 4\nflush\nflash 3\n", 3, Order),
+    ("blocks 4\nflash 3\nflash\n", 3, Twice),
+    ("device 4\nflash\n", 2, Word),
+    ("device 4\nflash x\n", 2, Word),
+    ("device 4\nflash 3 4\n", 2, Word),
+    ("device 4\nflash 2\n", 2, Number),
+    ("blocks 4\nflash 65\n", 2, Number),
+];
+
+const FLASH_LINES: [(&str, Option<u32>); 3] = [
+    ("device 4\nflash 3\nevents\n", Some(3)),
+    ("blocks 4\ncut 1\nflash 64\ndepth 2\nevents\n", Some(64)),
+    ("blocks 4\nevents\n", None),
+];
+
+#[test]
+fn reads_the_line_of_the_flash_log(rt: HostRuntime) {
+    expect_faults(&rt, rt.alloc(), &BAD_FLASH_LINES);
+    for (text, flash) in &FLASH_LINES {
+        assert_eq!(rt; header_of(&rt, rt.alloc(), text).flash, *flash, "{text}");
+    }
+}
+
+const OUTSIDE_LIMITS: [Row; 23] = [
+    ("device 0\n", 1, Number),
+    ("device 4097\n", 1, Number),
+    ("device 99999999999999999999999\n", 1, Number),
+    ("blocks 0\n", 1, Number),
+    ("blocks 4097\n", 1, Number),
+    ("blocks 18446744073709551617\n", 1, Number),
+    ("# one\n\ndevice 0\n", 3, Number),
+    ("device 4\ndepth 0\n", 2, Number),
+    ("device 4\ndepth 65\n", 2, Number),
+    ("device 4\ndepth 0\nflsh\n", 2, Number),
+    ("blocks 4\nqueue 0\n", 2, Number),
+    ("blocks 4\nqueue 65\n", 2, Number),
+    ("device 4\ncut 1000000001\n", 2, Number),
+    ("device 3\nput 3 1a free\n", 2, Number),
+    ("blocks 1\nput 1 1a barrier\n", 2, Number),
+    ("device 4\nevents\nreceive x 0\n", 3, Number),
+    ("device 4\nevents\nreceive x 1000001\n", 3, Number),
+    ("device 4\nevents\ntransfer 4294967296\n", 3, Number),
+    ("device 4\nevents\npersist 4294967296 x 2\n", 3, Number),
+    ("device 4\nevents\npersist 0 x 0\n", 3, Number),
+    ("blocks 4\nevents\nsubmit x 0\n", 3, Number),
+    ("blocks 4\nevents\naccept x 1000001\n", 3, Number),
+    ("blocks 4\nevents\ndispatch 4294967296\n", 3, Number),
+];
 
 #[test]
 fn keeps_the_limits(rt: HostRuntime) {
-    let rows = [
-        ("device 0\n", 1, Number),
-        ("device 4097\n", 1, Number),
-        ("device 99999999999999999999999\n", 1, Number),
-        ("blocks 0\n", 1, Number),
-        ("blocks 4097\n", 1, Number),
-        ("blocks 18446744073709551617\n", 1, Number),
-        ("# one\n\ndevice 0\n", 3, Number),
-        ("device 4\ndepth 0\n", 2, Number),
-        ("device 4\ndepth 65\n", 2, Number),
-        ("device 4\ndepth 0\nflsh\n", 2, Number),
-        ("blocks 4\nqueue 0\n", 2, Number),
-        ("blocks 4\nqueue 65\n", 2, Number),
-        ("device 4\ncut 1000000001\n", 2, Number),
-        ("device 3\nput 3 1a free\n", 2, Number),
-        ("blocks 1\nput 1 1a barrier\n", 2, Number),
-        ("device 4\nevents\nreceive x 0\n", 3, Number),
-        ("device 4\nevents\nreceive x 1000001\n", 3, Number),
-        ("device 4\nevents\ntransfer 4294967296\n", 3, Number),
-        ("device 4\nevents\npersist 4294967296 x 2\n", 3, Number),
-        ("device 4\nevents\npersist 0 x 0\n", 3, Number),
-        ("blocks 4\nevents\nsubmit x 0\n", 3, Number),
-        ("blocks 4\nevents\naccept x 1000001\n", 3, Number),
-        ("blocks 4\nevents\ndispatch 4294967296\n", 3, Number),
-    ];
-    expect_faults(&rt, rt.alloc(), &rows);
+    expect_faults(&rt, rt.alloc(), &OUTSIDE_LIMITS);
 }
 
 #[test]
