@@ -110,6 +110,7 @@ impl Body {
         })
     }
 
+    /// Its 1,024 bytes.
     pub fn block(&self) -> &Block
         ensures { result.now ≡ self.now }
     {

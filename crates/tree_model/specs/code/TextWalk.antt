@@ -19,7 +19,7 @@ with_names names w = record { showing = w.showing; names = names ++ w.names }
 unfoldable pub text_left : Walking → List ℕ
 text_left w = shown (length w.showing.left) w.showing w.names
 
--- the names of a directory; 0 for any other node
+-- the number of names of a directory; 0 for any other node
 abbrev pub names_in : Node → ℕ
 names_in (nodes.Directory d) = length d.names
 names_in other = 0
