@@ -3,3 +3,4 @@ pub mod Steps
 pub mod Fields
 pub mod Replies
 pub mod Progress
+pub mod Records

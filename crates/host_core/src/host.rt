@@ -36,7 +36,7 @@ use std::marker::Model;
 pub struct Host {
     pub(crate) parts: HostParts,
     pub(crate) history: Vec<Entry>,
-    cuts: Vec<u64>,
+    pub(crate) cuts: Vec<u64>,
     pub(crate) threads: Vec<Thread>,
 }
 

@@ -6,7 +6,8 @@
 //!
 //! `host` has the host with the actors' steps, `calling` the callers' step, and `standing` how a caller stands. `stepping`
 //! has a step of a call, on the `host_parts` that calls change, and `call_progress` and `noted_reply` how far that brought
-//! it; `settling` has what the host then notes of the call. `programs` has the callers' calls, and `thread` a caller.
+//! it; `settling` has what the host then notes of the call. `programs` has the callers' calls, and `thread` a caller. `host_record`
+//! has what is kept of a host once its session has ended.
 //!
 //! Stands on `commit_actor` and `flush_actor`, whose parts it has together, on `page_cache`, and on `begun`
 //! and `at_once` for the steps of calls, which has the volume, too; `minix_host` says what the
@@ -21,6 +22,7 @@ pub mod effects;
 pub mod gates;
 mod host;
 mod host_parts;
+mod host_record;
 pub mod lengths;
 mod noted_reply;
 mod programs;
@@ -31,4 +33,5 @@ mod thread;
 
 pub use crate::at_once::PlainVolume;
 pub use host::Host;
+pub use host_record::HostRecord;
 pub use programs::Programs;
