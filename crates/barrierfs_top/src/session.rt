@@ -69,7 +69,7 @@ pub fn figures_of(report: &SessionReport) -> Figures
     ensures { figures_of report.now ≡ record { steps = result.steps; requests = result.requests; closed = result.closed; found = result.found } }
 {
     Figures {
-        steps: report.cut.trace.steps,
+        steps: report.cut.trace.steps(),
         requests: report.host.submitted(),
         closed: report.host.cuts().len() as u64,
         found: report.found.into(),

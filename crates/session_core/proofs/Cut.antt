@@ -1,5 +1,5 @@
 -- What the power cut leaves of a script's session.
-use Rattle.std.proofs.Common.{◌≡◌, ℕ, true, List, Option, IfOk, Ok, sym, ap, subst, ◌∙◌, arith}
+use Rattle.std.proofs.Common.{◌≡◌, ◌++◌, ℕ, true, List, Option, IfOk, Ok, sym, ap, subst, ◌∙◌, arith}
 use Rattle.minix_layout.specs.Geometry.{IsSound}
 use Rattle.order_model.specs.OrderClosed.{IsOrderClosed}
 use Rattle.order_model.specs.declared.completion.Completion.{Completion}
@@ -37,8 +37,11 @@ cut_is s is sound bytes end r order b =
 
 -- ---- what is said of the blocks that a report has
 
-pub report_keeps : (base : List (List ℕ)) (requests : List Request) (image left : List (List ℕ)) (origins : List (Option ℕ)) (sent : List Completion) → left ≡ image → KeepsOrder base requests image origins sent → KeepsOrder base requests left origins sent
-report_keeps base requests image left origins sent same order = subst (λ (x : List (List ℕ)). KeepsOrder base requests x origins sent) (sym same) order
+pub report_keeps : (base : List (List ℕ)) (requests : List Request) (image left : List (List ℕ)) (origins : List (Option ℕ)) (sent kept waiting : List Completion) → left ≡ image → kept ≡ sent
+    → KeepsOrder base requests image origins (sent ++ waiting) → KeepsOrder base requests left origins (kept ++ waiting)
+report_keeps base requests image left origins sent kept waiting same told order =
+    subst (λ (x : List (List ℕ)). KeepsOrder base requests x origins (kept ++ waiting)) (sym same)
+    (subst (λ (x : List Completion). KeepsOrder base requests image origins (x ++ waiting)) (sym told) order)
 
 pub report_facts : (s : SessionScript) (h : Host VolumeNow Call Reply) (image left : List (List ℕ)) (origins : List (Option ℕ)) → left ≡ image → CutFacts s h (record { image = image; origins = origins }) → CutFacts s h (record { image = left; origins = origins })
 report_facts s h image left origins same facts = subst (λ (x : List (List ℕ)). CutFacts s h (record { image = x; origins = origins })) (sym same) facts

@@ -22,7 +22,7 @@ pub use laws::{
     calls_end_as_their_script_says, calls_promise_by_their_names, replaced_files_are_whole,
     what_is_shown_later_survived,
 };
-pub use report::{CutRecord, SessionReport};
+pub use report::{CutRecord, DeviceSteps, SessionReport};
 pub use running::{
     check_parts, core_run, flash_device, model_device, open_script, recover_session, run_on,
 };

@@ -1,10 +1,51 @@
 //! What a session leaves.
-use crate::run::Host;
+ghost use Rattle.std.specs.Prelude.{◌≡◌};
+
 use blk_base::{Block, Image};
 use call_sessions::power_cuts::calls::Attempt;
 use host_answers::Standing;
+use host_core::HostRecord;
 use order_model::{DeviceRecord, Origins, SchedRecord, Trail};
+use std::marker::Model;
 use volume_ops::Volume;
+
+/// What is kept of a device's record: how many steps it made. Contracts alone see what it took, transferred and sent.
+#[derive(Drop)]
+pub struct DeviceSteps {
+    steps: u64,
+    trace: Trail<DeviceRecord>,
+}
+
+impl Model for DeviceSteps {
+    ghost use Rattle.std.specs.Prelude.{◌≡◌};
+    ghost use Rattle.order_model.specs.declared.history.DeviceRecord.{DeviceRecord};
+    ghost use Rattle.session_core.specs.code.Steps.{first_record};
+
+    ghost Value = { DeviceRecord };
+
+    ghost view = { λ d. first_record d.trace.items };
+
+    ghost invariant = { λ d. d.steps ≡ (first_record d.trace.items).steps };
+}
+
+impl DeviceSteps {
+    /// What is kept of this record once its session has ended.
+    pub(crate) fn of(trace: DeviceRecord) -> DeviceSteps
+        ensures { result ≡ trace }
+    {
+        DeviceSteps {
+            steps: trace.steps,
+            trace: Trail::new().and(&trace),
+        }
+    }
+
+    /// How many steps the device made.
+    pub fn steps(&self) -> u64
+        ensures { result ≡ self.now.steps }
+    {
+        self.steps
+    }
+}
 
 /// What the power cut left of a session's device. The image itself went into its recovery.
 #[derive(Drop)]
@@ -12,13 +53,15 @@ pub struct CutRecord {
     /// The blocks of the medium, for contracts alone.
     pub image: Trail<Block>,
     pub origins: Origins,
-    pub trace: DeviceRecord,
+    /// What the device did.
+    pub trace: DeviceSteps,
 }
 
 /// What a session left, and what recovery made of it.
 #[derive(Drop)]
 pub struct SessionReport {
-    pub host: Host,
+    /// What is kept of the host.
+    pub host: HostRecord,
     /// What the scheduler accepted and sent out.
     pub sched: SchedRecord,
     /// What the power cut left.

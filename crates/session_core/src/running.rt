@@ -13,7 +13,7 @@ ghost use Rattle.session_core.specs.code.Cuts.{CutFacts, medium_left};
 ghost use Rattle.session_core.specs.code.Ends.{session_on, EndsIn, KeepsTheOrder, IsBehind, EndFits, IsEndOfScript};
 
 use crate::opening::{OpenedSession, open_session};
-use crate::report::{CutRecord, SessionReport};
+use crate::report::{CutRecord, DeviceSteps, SessionReport};
 use crate::run::machine::{hosts_of_sessions_take_their_steps, parts_of_sessions_fit};
 use crate::run::{
     Host, SessionEnd, calls_of_scripts_write_bytes, run_session, sessions_of_calls_on_made_images,
@@ -197,11 +197,14 @@ pub fn recover_session<M: Maker>(
         drop(host);
         return Err(NoMemory);
     };
+    // What the host held is let go before the mount, which needs memory of its own.
+    let host = host.into_record();
     let CutDisk {
         image,
         origins,
         trace,
     } = cut;
+    let trace = DeviceSteps::of(trace);
     let left = Trail::of_image(&image);
     let recovers = script.recovers.as_slice();
     let Ok(last) = remount(alloc, maker, script.zones.into(), 1, image, recovers) else {

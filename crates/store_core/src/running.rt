@@ -55,7 +55,7 @@ fn summary_of(
 {
     let held = held_on(alloc, room, &session.volume)?;
     Ok(StoreSummary {
-        steps: session.cut.trace.steps,
+        steps: session.cut.trace.steps(),
         requests: session.host.submitted(),
         acknowledged: acknowledged(script, session),
         held,

@@ -1,4 +1,5 @@
-use Rattle.std.proofs.Common.{sym}
+use Rattle.std.proofs.Common.{sym, ap, ◌∙◌}
+use Rattle.order_model.specs.declared.history.DeviceRecord.{DeviceRecord}
 use Rattle.session_core.specs.Core.{geometry_of}
 use Rattle.session_core.proofs.Cut.{report_keeps, report_facts, report_counts, base_of, journal_of}
 use Rattle.session_core.proofs.Headlines.{headline_of}
@@ -25,7 +26,10 @@ returns-clause-headline g c = λ e is.
     let s = c.args.script.now in
     let same = c.of_image-left.ensures in
     let facts = c.cut_scripts_keep_their_promises.ensures _ c.args.end is.order is.behind in
-    headline_of s _ _ (report_facts s _ _ _ _ same facts) (report_keeps _ _ _ _ _ _ same is.order) is.fits is.device is.left.trace.sent
+    let told = ap (λ (d : DeviceRecord). d.sent.items) c.of-trace.ensures in
+    headline_of s _ _ (report_facts s _ _ _ _ same facts)
+    (report_keeps _ _ _ _ _ c.args.end.cut.trace.sent.items c.of-trace.result.sent.items e.dev.waiting same told is.order)
+    is.fits is.device (told ∙ is.left.trace.sent)
     (report_counts _ _ _ _ _ same c.into.ensures c.in-Ok-remount.ensures.found)
 
 pub returns-clause-attempts : goal.returns-clause-attempts
