@@ -35,16 +35,17 @@ impl Sink for ByteSink {
     }
 }
 
-// A source that gives one byte a call, and whose call `fails` fails.
+// A source that gives so many bytes a call, or one where `piece` is 0, and whose call `fails` fails.
 #[derive(Drop)]
-struct ByteSource<'a> {
+struct PieceSource<'a> {
     bytes: &'a [u8],
+    piece: usize,
     calls: u64,
     fails: u64,
     faults: u64,
 }
 
-impl Source for ByteSource<'_> {
+impl Source for PieceSource<'_> {
     ghost left = { λ s. Some s.bytes.now };
 
     ghost faults = { λ s. s.faults };
@@ -55,13 +56,11 @@ impl Source for ByteSource<'_> {
             self.faults = self.faults.saturating_add(1);
             return Err(Failed);
         }
-        if buf.is_empty() || self.bytes.is_empty() {
-            return Ok(0);
-        }
-        let (first, rest) = self.bytes.split_at(1);
-        buf[0] = first[0];
+        let n = self.piece.max(1).min(buf.len()).min(self.bytes.len());
+        let (piece, rest) = self.bytes.split_at(n);
+        buf[..n].copy_from_slice(piece);
         self.bytes = rest;
-        Ok(1)
+        Ok(n)
     }
 }
 
@@ -204,16 +203,18 @@ fn gives<S: Source>(
     }
 }
 
-// The same of a source that gives a byte at a time.
+// The same of a source that gives so many bytes a call.
 fn is_image(
     alloc: Global,
     bytes: &[u8],
+    piece: usize,
     fails: u64,
     most: u64,
     wanted: Result<&[u8], ReadEnd>,
 ) -> bool {
-    let mut slow = ByteSource {
+    let mut slow = PieceSource {
         bytes,
+        piece,
         calls: 0,
         fails,
         faults: 0,
@@ -236,7 +237,8 @@ fn is_image_at_once(
     )
 }
 
-// What is left behind the last whole block is no block, and counts among the bytes.
+// What is left behind the last whole block is no block, and counts among the bytes. Of 700 bytes a call most end within a
+// block, whose first bytes wait at the front of the buffer then.
 #[test]
 fn reads_images(rt: HostRuntime) -> Result<(), NoMemory> {
     let rows: [(&[u8], usize, u64, Result<&[u8], ReadEnd>); 5] = [
@@ -248,7 +250,12 @@ fn reads_images(rt: HostRuntime) -> Result<(), NoMemory> {
     ];
     for (row, (fills, more, most, wanted)) in rows.into_iter().enumerate() {
         let bytes = bytes_of(rt.alloc(), fills, more)?;
-        assert!(rt; is_image(rt.alloc(), &bytes, 0, most, wanted), "row {row}");
+        for piece in [1, 700] {
+            assert!(rt;
+                is_image(rt.alloc(), &bytes, piece, 0, most, wanted),
+                "row {row}, {piece} bytes a call"
+            );
+        }
         assert!(rt;
             is_image_at_once(rt.alloc(), bytes, most, wanted),
             "row {row}"
@@ -263,11 +270,11 @@ fn fails_to_read_images(rt: HostRuntime) -> Result<(), NoMemory> {
     let bytes = bytes_of(rt.alloc(), &[4, 0], 1)?;
     for fails in [1, 1000, 1025, 2050] {
         assert!(rt;
-            is_image(rt.alloc(), &bytes, fails, 2049, Err(ReadEnd::Fault)),
+            is_image(rt.alloc(), &bytes, 1, fails, 2049, Err(ReadEnd::Fault)),
             "{fails}"
         );
     }
-    assert!(rt; is_image(rt.alloc(), &bytes, 2051, 2049, Ok(&[4, 0])));
+    assert!(rt; is_image(rt.alloc(), &bytes, 1, 2051, 2049, Ok(&[4, 0])));
     Ok(())
 }
 
