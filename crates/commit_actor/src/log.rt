@@ -208,21 +208,21 @@ impl Log {
     }
 
     // Sends a page of a changed file.
-    pub fn send_page<O: Outlet<Request>>(&mut self, page: &CachedPage, out: &mut O) -> Turn
+    pub fn send_page<O: Outlet<Request>>(&mut self, page: CachedPage, out: &mut O) -> Turn
         ensures turn { result ≡ submit_turn (is_queue_full result) self.old.flush }
-        ensures log { self.new ≡ if_did result (with_parts self.old (page_sent (part_of self.old Closing) page.now)) self.old }
+        ensures log { self.new ≡ if_did result (with_parts self.old (page_sent (part_of self.old Closing) page)) self.old }
         ensures sent { O.sent out.new ≡ O.sent out.old ++ sent_between self.old.flush self.new.flush }
         ensures full { result ≡ QueueFull → O.was_full out.old out.new }
         ensures rest { O.rest out.new ≡ O.rest out.old }
     {
-        let kind = Kind::Put {
-            block: page.block,
-            body: page.body.copy(),
-        };
         let note = Note::Page {
             birth: page.birth,
             index: page.index,
             call: page.version,
+        };
+        let kind = Kind::Put {
+            block: page.block,
+            body: page.body,
         };
         self.flush.submit(kind, true, false, note, out)
     }

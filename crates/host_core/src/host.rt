@@ -296,14 +296,14 @@ impl Host {
             .copied()
             .unwrap_or(0);
         let ordered = !self.parts.journal.is_submitted(owner);
-        let kind = Kind::Put {
-            block: page.block,
-            body: page.body.copy(),
-        };
         let note = Note::Page {
             birth,
             index,
             call: page.version,
+        };
+        let kind = Kind::Put {
+            block: page.block,
+            body: page.body,
         };
         let turn = self.parts.journal.submit(kind, ordered, false, note, out);
         if matches!(turn, Turn::Did) {

@@ -27,7 +27,7 @@ fn full(rt: &impl Abort, alloc: Global) -> Pages {
 #[test]
 fn keeps_pages_in_order(rt: HostRuntime) {
     let mut pages = full(&rt, rt.alloc());
-    assert!(rt; pages.body(2, 9) == Some(&Block::fill(5)));
+    assert!(rt; pages.body(2, 9) == Some(Block::fill(5)));
     let kept = (pages.block(2, 9), pages.version(2, 9), pages.dirty(1));
     assert_eq!(rt; kept, (Some(44), Some(5), Some((7, 0))));
     pages.drop_page(7, 0);
@@ -39,4 +39,16 @@ fn keeps_pages_in_order(rt: HostRuntime) {
     pages_are_a_map();
     pages_stand_in_order();
     next_page_is_least();
+}
+
+#[test]
+fn keeps_each_byte(rt: HostRuntime) {
+    let mut pages = full(&rt, rt.alloc());
+    let mut body = Block::fill(5);
+    body.set(1023, 6);
+    assert_eq!(rt; pages.set(2, 9, 41, body.copy(), 6), Ok(()));
+    assert!(rt; pages.body(2, 9) == Some(body));
+    assert!(rt; pages.body(7, 0) == Some(Block::fill(1)));
+    assert_eq!(rt; pages.set(2, 9, 41, Block::fill(7), 7), Ok(()));
+    assert!(rt; pages.body(2, 9) == Some(Block::fill(7)));
 }

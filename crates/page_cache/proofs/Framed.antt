@@ -1,15 +1,14 @@
 -- Pages in frames, where a page comes, changes or goes.
-use Rattle.std.proofs.Common.{◌≡◌, ◌≢◌, ℕ, zero, suc, ◌+◌, ◌<◌, ◌≤◌, ◌⊎◌, true, false, cond, List, [], ◌∷◌, length, map, count_by, slice_set, Option, Some, None, refl, sym, ap, subst, ◌∙◌, inl, inr, ⊎_elim, arith}
-use Rattle.std.specs.Prelude.{⊤, is_some, IsSome, OnSome, slice_index_or}
+use Rattle.std.proofs.Common.{◌≡◌, ◌≢◌, ℕ, zero, suc, ◌+◌, ◌<◌, ◌≤◌, ◌⊎◌, true, false, List, [], ◌∷◌, length, map, slice_set, Option, Some, None, refl, sym, ap, subst, ◌∙◌, inl, inr, ⊎_elim, arith}
+use Rattle.std.specs.Prelude.{⊤, IsSome, slice_index_or}
 use Rattle.std.specs.List.{insert, remove, slice_get}
+use Rattle.std.specs.Option.{option_map}
 use Rattle.std.proofs.lemmas.Bool.{cases_eq, false≢true}
 use Rattle.std.proofs.Math.Path.{ap₂}
 use Rattle.std.proofs.lemmas.Option.{none-some, same_Some, slice_get-get_or}
 use Rattle.std.proofs.lemmas.List.{length-map}
-use Rattle.std.proofs.lemmas.List.Sums.{sum_by-cons}
 use Rattle.std.proofs.lemmas.List.Edits.{length-insert, length-remove}
-use Rattle.slab.specs.Slab.{Slab, get, slab_len, with_value, Updates}
-use Rattle.slab.proofs.SlabLemmas.{Updates-with_value}
+use Rattle.slab.specs.Slab.{Slab, get, slab_len, Updates}
 use Rattle.blk_base.specs.Members.{In}
 use Rattle.blk_base.specs.laws.Members.{map-In, slice_get-In, slice_get-map_some, filter_all, In-remove}
 use Rattle.page_cache.specs.declared.cached_page.CachedPage.{CachedPage}
@@ -21,10 +20,6 @@ use Rattle.page_cache.specs.laws.Maps.{page_at-key}
 use Rattle.page_cache.specs.laws.Order.{not_same, put-rising, drop-rising}
 use Rattle.page_cache.proofs.Keyed.{keys_rising}
 use Rattle.page_cache.proofs.Places.{found_there, found_nowhere, put_there_by, put_between_by}
-
-pub on_some : {T : Type 0} (o : Option T) (P : Type 0) → IsSome o → OnSome o P → P
-on_some None P e h = absurd (false≢true e)
-on_some (Some x) P e h = h
 
 -- no frame has two places
 abbrev pub AreApart : List ℕ → Type 0
@@ -110,17 +105,6 @@ filled_remove s t ks at k u r e old j i = subst IsSome (sym (u.others j (In-remo
 pub free_apart : (s : Slab CachedPage) (ks : List ℕ) (k : ℕ) → ((j : ℕ) → In j ks → IsSome (get s j)) → get s k ≡ None → In k ks → ⊥
 free_apart s ks k filled none i = false≢true (subst IsSome none (filled k i))
 
--- ---- how many there are
-
-pub count_set : (slots : List (Option CachedPage)) (k : ℕ) (q : CachedPage) → IsSome (slice_index_or slots k None) → count_by is_some (slice_set slots k (Some q)) ≡ count_by is_some slots
-count_set [] k q h = absurd (false≢true h)
-count_set (None ∷ slots) zero q h = absurd (false≢true h)
-count_set (Some p ∷ slots) zero q h = refl
-count_set (None ∷ slots) (suc k) q h = count_set slots k q h
-count_set (Some p ∷ slots) (suc k) q h =
-    let one = λ (o : Option CachedPage). cond (is_some o) 1 0 in
-    sum_by-cons one (Some p) (slice_set slots k (Some q)) ∙ ap (λ n. 1 + n) (count_set slots k q h) ∙ sym (sum_by-cons one (Some p) slots)
-
 -- ---- their keys
 
 pub keys_set : (ps : List CachedPage) (at : ℕ) (x q : CachedPage) → slice_get ps at ≡ Some x → key_of q ≡ key_of x → map key_of (slice_set ps at q) ≡ map key_of ps
@@ -189,11 +173,10 @@ module _ (s : Slab CachedPage) (ks : List ℕ) (pc : ℕ) (keys : List (ℕ × �
 
   -- a page changes in its frame
   pub frames_set : (t : Slab CachedPage) (f i at k : ℕ) (q : CachedPage) → keyed.stands keys f i ≡ true → at ≡ keyed.place_of keys f i → at < length ks → k ≡ slice_index_or ks at k
-      → t ≡ with_value s k q → q.birth ≡ f → q.index ≡ i → AreFrames t ks pc keys kc room × (pages_in t ks ≡ put_page held q)
-  frames_set t f i at k q stands place inside read new qf qi =
+      → Updates s t k (Some q) → slab_len t ≡ slab_len s → t.capacity ≡ s.capacity → q.birth ≡ f → q.index ≡ i → AreFrames t ks pc keys kc room × (pages_in t ks ≡ put_page held q)
+  frames_set t f i at k q stands place inside read u count capacity qf qi =
       let e = read_place ks at k inside read in
       let some = h.filled k (slice_get-In ks at k e) in
-      let u : Updates s t k (Some q) = subst (λ n. Updates s n k (Some q)) (sym new) (Updates-with_value s k q some) in
       let there = sym (ap (λ xs. keyed.stands xs f i) h.keyed) ∙ stands in
       let at_place = place ∙ ap (λ xs. keyed.place_of xs f i) h.keyed in
       let pages = pages_set s t ks at k q u (apart s ks h.rising) e in
@@ -202,23 +185,25 @@ module _ (s : Slab CachedPage) (ks : List ℕ) (pc : ℕ) (keys : List (ℕ × �
       let same_key : key_of q ≡ key_of (page_in s k) = ap₂ (λ a b. (a, b)) (qf ∙ sym key.0) (qi ∙ sym key.1) in (
         record {
           filled = filled_set s t ks k q u h.filled;
-          count = ap slab_len new ∙ count_set s.slots k q some ∙ h.count;
+          count = count ∙ h.count;
           rising = subst IsRising (sym put) (put-rising held q h.rising);
           keyed = h.keyed ∙ sym (ap (λ ps. map key_of ps) pages ∙ keys_set held at (page_in s k) q (slice_get-map_some (page_in s) ks at k e) same_key);
           most = h.most;
-          enough_frames = subst (λ (n : Slab CachedPage). room ≤ n.capacity) (sym new) h.enough_frames;
+          enough_frames = subst (λ n. room ≤ n) (sym capacity) h.enough_frames;
           enough_places = h.enough_places;
           enough_keys = h.enough_keys;
         },
         put,
       )
 
-  pub frames_mark : (t : Slab CachedPage) (f i at k : ℕ) (x : CachedPage) (state : PageState) → keyed.stands keys f i ≡ true → at ≡ keyed.place_of keys f i → at < length ks → k ≡ slice_index_or ks at k
-      → get s k ≡ Some x → t ≡ with_value s k (marked x state) → AreFrames t ks pc keys kc room × (pages_in t ks ≡ mark_page held f i state)
-  frames_mark t f i at k x state stands place inside read page new =
-      let there : page_at held f i ≡ Some x = sym (found f i at k stands place inside read) ∙ page in
-      let key = page_at-key held f i x there in
-      let done = frames_set t f i at k (marked x state) stands place inside read new key.0 key.1 in (
+  pub frames_mark : (t : Slab CachedPage) (f i at k : ℕ) (state : PageState) → keyed.stands keys f i ≡ true → at ≡ keyed.place_of keys f i → at < length ks → k ≡ slice_index_or ks at k
+      → Updates s t k (option_map (λ p. marked p state) (get s k)) → slab_len t ≡ slab_len s → t.capacity ≡ s.capacity → AreFrames t ks pc keys kc room × (pages_in t ks ≡ mark_page held f i state)
+  frames_mark t f i at k state stands place inside read u count capacity =
+      let page = frame_page k (has_page at k inside read) in
+      let there : page_at held f i ≡ Some (page_in s k) = sym (found f i at k stands place inside read) ∙ page in
+      let key = page_at-key held f i (page_in s k) there in
+      let written = subst (λ o. Updates s t k (option_map (λ p. marked p state) o)) page u in
+      let done = frames_set t f i at k (marked (page_in s k) state) stands place inside read written count capacity key.0 key.1 in (
         done.0,
         done.1 ∙ sym (ap (λ (o : Option CachedPage). elim o as (λ _. List CachedPage) [ None ↦ held | Some p ↦ put_page held (marked p state) ]) there),
       )

@@ -3,5 +3,6 @@ mod KeyPlaces
 mod Places
 mod Keyed
 mod OfFiles
+mod Stored
 mod Framed
 mod Steps

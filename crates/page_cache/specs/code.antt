@@ -1,4 +1,5 @@
 pub mod Keys
 pub mod Gap
+pub mod Store
 pub mod Frames
 pub mod Pages

@@ -1,22 +1,23 @@
 //! Pages in frames.
 ghost use Rattle.std.specs.Prelude.{◌≡◌, ◌≢◌, ◌↔◌, ◌+◌, ◌≤◌, length, IfOk, OnErr, IsErr, None, []};
-ghost use Rattle.std.specs.Option.{option_copied};
+ghost use Rattle.std.specs.Option.{option_map};
 ghost use Rattle.page_cache.specs.declared.cached_page.CachedPage.{CachedPage};
 ghost use Rattle.page_cache.specs.Pages.{Cache, with_pages, page_at, put_page, drop_page, mark_page};
 ghost use Rattle.page_cache.specs.Unsent.{with_room_for};
 
 use crate::gap_list::GapList;
 use crate::keys::find_key;
+use crate::page_store::{PageHead, PageStore};
 use crate::{CachedPage, NoRoom, PageState};
 use blk_base::NoMemory;
-use slab::Slab;
 use std::alloc::Global;
 use std::marker::Model;
 
-/// The pages, each in a frame that it keeps until it goes. The frame then serves the next new page.
+/// The pages, each in a frame that it keeps until it goes. The frame then serves the next new page. What is asked of a
+/// page's head copies no body.
 #[derive(Drop)]
 pub struct Frames {
-    frames: Slab<CachedPage>,
+    frames: PageStore,
     // Birth and index of each page, in order.
     keys: GapList<(u64, u32)>,
     // The frame of each page, in the same order.
@@ -42,7 +43,7 @@ impl Frames {
     {
         let room_size = room as usize;
         Ok(Frames {
-            frames: Slab::with_capacity(alloc, room_size)?,
+            frames: PageStore::with_capacity(alloc, room_size)?,
             keys: GapList::with_capacity(alloc, room_size)?,
             places: GapList::with_capacity(alloc, room_size)?,
             room,
@@ -69,7 +70,7 @@ impl Frames {
         ensures ok { IfOk result (λ u. self.new ≡ record { room = wanted; pages = self.old.pages }) }
         ensures err { OnErr result (self.new ≡ self.old) }
     {
-        self.frames.reserve(more as usize)?;
+        self.frames.reserve(more as usize, wanted as usize)?;
         self.keys.reserve(more as usize)?;
         self.places.reserve(more as usize)?;
         self.room = wanted;
@@ -87,14 +88,14 @@ impl Frames {
         let (birth, index) = (page.birth, page.index);
         match find_key(&self.keys, birth, index) {
             Ok(at) => {
-                self.frames[self.places.at(at)] = page;
+                self.frames.set(self.places.at(at), page);
                 Ok(())
             }
             Err(at) => {
                 if self.places.len() >= self.room as usize {
                     return Err(NoRoom);
                 }
-                let frame = self.frames.insert_reserved(page);
+                let frame = self.frames.insert(page);
                 self.keys.insert(at, (birth, index));
                 self.places.insert(at, frame);
                 Ok(())
@@ -108,7 +109,7 @@ impl Frames {
         ensures { self.new ≡ with_pages self.old (mark_page self.old.pages birth index s) }
     {
         if let Ok(at) = find_key(&self.keys, birth, index) {
-            self.frames[self.places.at(at)].state = s;
+            self.frames.mark(self.places.at(at), s);
         }
     }
 
@@ -117,15 +118,27 @@ impl Frames {
         ensures { self.new ≡ with_pages self.old (drop_page self.old.pages birth index) }
     {
         if let Ok(at) = find_key(&self.keys, birth, index) {
-            self.frames.try_remove(self.places.at(at));
+            self.frames.remove(self.places.at(at));
             self.keys.remove(at);
             self.places.remove(at);
         }
     }
 
+    /// The head of a page, if it is there.
+    pub fn head(&self, birth: u64, index: u32) -> Option<PageHead>
+        ensures block { option_map (λ h. h.block) result ≡ option_map (λ p. p.block) (page_at self.now.pages birth index) }
+        ensures version { option_map (λ h. h.version) result ≡ option_map (λ p. p.version) (page_at self.now.pages birth index) }
+        ensures state { option_map (λ h. h.state) result ≡ option_map (λ p. p.state) (page_at self.now.pages birth index) }
+    {
+        match find_key(&self.keys, birth, index) {
+            Ok(at) => self.frames.head(self.places.at(at)),
+            Err(_) => None,
+        }
+    }
+
     /// A page, if it is there.
-    pub fn page(&self, birth: u64, index: u32) -> Option<&CachedPage>
-        ensures { option_copied result ≡ page_at self.now.pages birth index }
+    pub fn page(&self, birth: u64, index: u32) -> Option<CachedPage>
+        ensures { result ≡ page_at self.now.pages birth index }
     {
         match find_key(&self.keys, birth, index) {
             Ok(at) => self.frames.get(self.places.at(at)),

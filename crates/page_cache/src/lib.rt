@@ -4,7 +4,8 @@
 //! it is sent without order or with it; a call that takes pages to the device asks for the next one that is left.
 //!
 //! `pages` has the cache: `frames` keep the pages where they are, and lists of `keys` have them in order, all of them
-//! and those that are unsent. `cached_page` is what is kept of a page, and `laws` what a list of pages says as a map.
+//! and those that are unsent. `page_store` has what is in the frames, and the bodies apart (`page_body`): one whose
+//! bytes are all equal takes no kilobyte. `cached_page` is a page, and `laws` what a list of pages says as a map.
 //!
 //! Stands on `blk_base`, whose `Block` has the bytes of a page, and on `number_sets`.
 #![tactic(auto)]
@@ -14,6 +15,8 @@ mod frames;
 mod gap_list;
 mod keys;
 mod laws;
+mod page_body;
+mod page_store;
 mod pages;
 
 pub use cached_page::{CachedPage, PageState};

@@ -1,6 +1,6 @@
 //! The cache of pages.
 ghost use Rattle.std.specs.Prelude.{◌≡◌, ◌≢◌, ◌↔◌, IfOk, OnErr, IsErr, Some, None, [], filter, length};
-ghost use Rattle.std.specs.Option.{option_copied, option_map};
+ghost use Rattle.std.specs.Option.{option_map};
 ghost use Rattle.page_cache.specs.declared.cached_page.CachedPage.{CachedPage};
 ghost use Rattle.page_cache.specs.declared.cached_page.PageState.TheVariants as page_states;
 ghost use Rattle.page_cache.specs.Pages.{Cache, with_pages, page_at, put_page, drop_page, mark_page, next_in_file, next_unsent, unsent_of, dirty_page, key_of, is_dirty as page_is_dirty};
@@ -20,7 +20,8 @@ use std::marker::Model;
 #[derive(Clone, Copy, Debug, PartialEq, Eq)]
 pub struct NoRoom;
 
-/// The pages of files, in order of birth and index. Only `load`, `reserve` and `unsent_keys` take memory.
+/// The pages of files, in order of birth and index. Only `load`, `reserve` and `unsent_keys` take memory. A page whose
+/// bytes are all equal takes no kilobyte of what was reserved.
 #[derive(Drop)]
 pub struct Pages {
     pages: Frames,
@@ -107,32 +108,32 @@ impl Pages {
         Ok(())
     }
 
-    /// The bytes of a page, if it is there.
-    pub fn body(&self, birth: u64, index: u32) -> Option<&Block>
-        ensures { option_copied result ≡ option_map (λ p. p.body) (page_at self.now.pages birth index) }
+    /// A copy of the bytes of a page, if it is there.
+    pub fn body(&self, birth: u64, index: u32) -> Option<Block>
+        ensures { result ≡ option_map (λ p. p.body) (page_at self.now.pages birth index) }
     {
-        Some(&self.page(birth, index)?.body)
+        Some(self.page(birth, index)?.body)
     }
 
     /// How a page was sent, if it is there.
     pub fn state(&self, birth: u64, index: u32) -> Option<PageState>
         ensures { result ≡ option_map (λ p. p.state) (page_at self.now.pages birth index) }
     {
-        Some(self.page(birth, index)?.state)
+        Some(self.pages.head(birth, index)?.state)
     }
 
     /// The block of the volume that a page goes to, if it is there.
     pub fn block(&self, birth: u64, index: u32) -> Option<u32>
         ensures { result ≡ option_map (λ p. p.block) (page_at self.now.pages birth index) }
     {
-        Some(self.page(birth, index)?.block)
+        Some(self.pages.head(birth, index)?.block)
     }
 
     /// The call that changed a page last, if it is there.
     pub fn version(&self, birth: u64, index: u32) -> Option<u64>
         ensures { result ≡ option_map (λ p. p.version) (page_at self.now.pages birth index) }
     {
-        Some(self.page(birth, index)?.version)
+        Some(self.pages.head(birth, index)?.version)
     }
 
     /// Notes how a page was sent.
@@ -169,10 +170,11 @@ impl Pages {
         key_from(&self.unsent, birth, from)
     }
 
-    /// The first page, in order, of one of the files with these births that is not sent, or was sent without order.
-    pub fn unsent_of(&self, births: &[u64]) -> Option<&CachedPage>
+    /// A copy of the first page, in order, of one of the files with these births that is not sent, or was sent without
+    /// order.
+    pub fn unsent_of(&self, births: &[u64]) -> Option<CachedPage>
         requires { sets.IsRising births.now }
-        ensures page { option_copied result ≡ unsent_of self.now.pages births.now }
+        ensures page { result ≡ unsent_of self.now.pages births.now }
         ensures found { (p : CachedPage) → unsent_of self.now.pages births.now ≡ Some p → page_at self.now.pages p.birth p.index ≡ Some p }
     {
         let (birth, index) = first_of(&self.unsent, births)?;
@@ -193,18 +195,18 @@ impl Pages {
         self.dirty.get(pick as usize)
     }
 
-    /// The Dirty page number `pick`, in order.
-    pub fn dirty_page(&self, pick: u32) -> Option<&CachedPage>
-        ensures page { option_copied result ≡ dirty_page self.now.pages pick }
+    /// A copy of the Dirty page number `pick`, in order.
+    pub fn dirty_page(&self, pick: u32) -> Option<CachedPage>
+        ensures page { result ≡ dirty_page self.now.pages pick }
         ensures found { (p : CachedPage) → dirty_page self.now.pages pick ≡ Some p → page_at self.now.pages p.birth p.index ≡ Some p }
     {
         let (birth, index) = self.dirty(pick)?;
         self.pages.page(birth, index)
     }
 
-    /// A page, if it is there.
-    pub fn page(&self, birth: u64, index: u32) -> Option<&CachedPage>
-        ensures { option_copied result ≡ page_at self.now.pages birth index }
+    /// A copy of a page, if it is there.
+    pub fn page(&self, birth: u64, index: u32) -> Option<CachedPage>
+        ensures { result ≡ page_at self.now.pages birth index }
     {
         self.pages.page(birth, index)
     }

@@ -2,15 +2,13 @@
 use Rattle.std.proofs.Common.{◌≡◌, ℕ, ◌+◌, ◌-◌, ◌≤◌, ◌&&◌, ◌||◌, not, Bool, true, false, if◌then◌else◌, List, length, drop, Option, Some, None, is_none, option_map, refl, sym, ap, ◌∙◌, arith}
 use Rattle.std.proofs.lemmas.Bool.{false≢true}
 use Rattle.std.proofs.lemmas.List.{drop-drop}
-use Rattle.order_model.specs.declared.note.Note.TheVariants as notes
-use Rattle.order_model.specs.declared.request.Kind.TheVariants as puts
 use Rattle.order_model.specs.declared.turn.Turn.TheVariants as turns
 use Rattle.page_cache.specs.Pages.{page_at, put_page, mark_page, marked}
 use Rattle.page_cache.specs.declared.cached_page.CachedPage.{CachedPage}
 use Rattle.page_cache.specs.declared.cached_page.PageState.TheVariants.{Firm}
 use Rattle.flush_actor.specs.Kinds.{is_data}
 use Rattle.flush_actor.specs.Outcomes.{is_did}
-use Rattle.flush_actor.specs.Part.{FlushPart, at_limit, submit}
+use Rattle.flush_actor.specs.Part.{FlushPart, at_limit}
 use Rattle.flush_actor.specs.Steps.{submit_turn}
 use Rattle.flush_actor.specs.declared.wait.Wait.{Wait}
 use Rattle.commit_actor.specs.Journal.{JournalPart}
@@ -32,16 +30,6 @@ below_limit f = by (at_limit f) refl
 pub none_left : {X Y : Type 0} (f : X → Y) (o : Option X) (n : Option Y) → option_map f o ≡ n → is_none o ≡ is_none n
 none_left f None n e = ap is_none e
 none_left f (Some x) n e = ap is_none e
-
--- the request of a page
-pub sent_out : (j : JournalPart) (p : CachedPage) (body : List ℕ) (barrier : Bool) → body ≡ p.body
-    → (let x : JournalPart = record j {
-      flush = submit (record { id = length j.flush.requests; kind = puts.Put p.block body; ordered = true; barrier = barrier }) (notes.Page p.birth p.index p.version) j.flush;
-    } in x) ≡ page_out j p barrier
-sent_out j p body barrier e =
-    ap (λ (b : List ℕ). let x : JournalPart = record j {
-      flush = submit (record { id = length j.flush.requests; kind = puts.Put p.block b; ordered = true; barrier = barrier }) (notes.Page p.birth p.index p.version) j.flush;
-    } in x) e
 
 marks : (ps : List CachedPage) (p : CachedPage) → page_at ps p.birth p.index ≡ Some p → mark_page ps p.birth p.index Firm ≡ put_page ps (marked p Firm)
 marks ps p there = ap (λ (o : Option CachedPage). elim o as (λ _. List CachedPage) [ None ↦ ps | Some x ↦ put_page ps (marked x Firm) ]) there

@@ -17,19 +17,18 @@ use order_model::{Kind, Note, Outlet, Request, Turn};
 use page_cache::{CachedPage, PageState, Pages};
 
 // The first page on the list, from a place on, that is there and unsent, with its place.
-pub fn next_unsent<'a>(
-    pages: &'a Pages,
-    list: &[(u64, u32)],
-    from: usize,
-) -> Option<(usize, &'a CachedPage)>
-    ensures next { option_map (λ x. (x.1.now, drop (x.0 + 1) list.now)) result ≡ unsent_on pages.now.pages (drop from list.now) }
+pub fn next_unsent(pages: &Pages, list: &[(u64, u32)], from: usize) -> Option<(usize, CachedPage)>
+    ensures next { option_map (λ x. (x.1, drop (x.0 + 1) list.now)) result ≡ unsent_on pages.now.pages (drop from list.now) }
     ensures within { IfSome result (λ x. (from ≤ x.0) × (x.0 < length list.now)) }
-    ensures found { IfSome result (λ x. page_at pages.now.pages x.1.now.birth x.1.now.index ≡ Some x.1.now) }
+    ensures found { IfSome result (λ x. page_at pages.now.pages x.1.birth x.1.index ≡ Some x.1) }
 {
     for at in from..list.len() {
         let (birth, index) = list[at];
-        if let Some(page) = pages.page(birth, index)
-            && matches!(page.state, PageState::Dirty | PageState::Loose)
+        if matches!(
+            pages.state(birth, index),
+            Some(PageState::Dirty | PageState::Loose)
+        )
+            && let Some(page) = pages.page(birth, index)
         {
             return Some((at, page));
         }
@@ -58,14 +57,14 @@ pub fn send_next<O: Outlet<Request>>(
     let last = next_unsent(pages, &begun.list, at + 1).is_none();
     let barrier = begun.kind.is_data() && last;
     let (birth, index) = (page.birth, page.index);
-    let kind = Kind::Put {
-        block: page.block,
-        body: page.body.copy(),
-    };
     let note = Note::Page {
         birth,
         index,
         call: page.version,
+    };
+    let kind = Kind::Put {
+        block: page.block,
+        body: page.body,
     };
     let id = journal.flush().submitted();
     match journal.submit(kind, true, barrier, note, out) {

@@ -36,7 +36,7 @@ pub fn take_zones(owners: &mut Vec<u64>, pages: &Pages, tx: u64, written: &[Page
     ensures { owners.new.items ≡ taken_zones tx pages.now.pages owners.old.items written.now }
 {
     for page in written {
-        let is_new = pages.page(page.birth, page.index).is_none();
+        let is_new = pages.state(page.birth, page.index).is_none();
         if is_new && let Some(owner) = owners.get_mut(usize::from(page.zone)) {
             *owner = tx;
         }

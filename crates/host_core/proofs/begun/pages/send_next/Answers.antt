@@ -8,7 +8,7 @@ use Rattle.commit_actor.specs.Actor.{CommitActor}
 use Rattle.host_machine.specs.Host.{unsent_on}
 use Rattle.host_machine.specs.State.{Begun}
 use Rattle.host_core.specs.begun.Steps.{page_out}
-use Rattle.host_core.proofs.BegunLemmas.Sends.{none_left, sent_out, sent_is, with_flag, from_not}
+use Rattle.host_core.proofs.BegunLemmas.Sends.{none_left, sent_is, with_flag, from_not}
 use Rattle.host_core.proofs.begun.pages.send_next.Goals.{then-is_data, else-is_data}
 use Rattle.host_core.proofs.begun.pages.send_next.Goals as goal
 
@@ -18,7 +18,7 @@ returns-then-begun-clause-some g c t w =
     let items = b.list.items in
     let ps = c.args.pages.now.pages in
     let at = c.in_ok-at.at in
-    let p = c.in_ok-at.page.now in
+    let p = c.in_ok-at.page in
     let kind : b.kind ≡ c.args.begun.now.kind = ap (λ (x : Begun). x.kind) c.begun.view_is in
     let last : c.is_none-last.result ≡ is_none (unsent_on ps (drop (at + 1) items)) = from_not _ c.is_none-last.result c.is_none-last.ensures ∙ none_left _ c.next_unsent-2.result (unsent_on ps (drop (at + 1) c.deref-2.result.now)) c.next_unsent-2.ensures.next ∙ ap (λ l. is_none (unsent_on ps (drop (at + 1) l))) c.deref-2.ensures.value in
     let asked : c.is_data.result ≡ is_data c.args.begun.now.kind = c.is_data.ensures ∙ ap is_data kind in
@@ -31,7 +31,7 @@ returns-then-begun-clause-some g c t w =
     let found : Some (p, drop (at + 1) items) ≡ unsent_on ps (drop b.passed items) = search rules in
     let low : b.passed ≤ at = search rules in
     let did : turns.Did ≡ submit_turn false c.args.journal.now.part.flush = search rules in
-    let out : c.submit.new.self.part ≡ page_out c.args.journal.now.part p c.if-is_data.barrier = ap (λ (x : CommitActor). x.part) (c.in-Did.ensures.part) ∙ sent_out c.args.journal.now.part p c.copy.result c.if-is_data.barrier (search rules) in
+    let out : c.submit.new.self.part ≡ page_out c.args.journal.now.part p c.if-is_data.barrier = ap (λ (x : CommitActor). x.part) (c.in-Did.ensures.part) in
     let id : c.submitted-id.result ≡ length c.args.journal.now.part.flush.requests = search rules in
     let pages : c.mark.new.self.pages ≡ mark_page ps p.birth p.index Firm = ap (λ (x : Cache). x.pages) c.mark.ensures in
     let there : page_at ps p.birth p.index ≡ Some p = search rules in
@@ -44,7 +44,7 @@ returns-else-begun-clause-some g c t w =
     let items = b.list.items in
     let ps = c.args.pages.now.pages in
     let at = c.in_ok-at.at in
-    let p = c.in_ok-at.page.now in
+    let p = c.in_ok-at.page in
     let kind : b.kind ≡ c.args.begun.now.kind = ap (λ (x : Begun). x.kind) c.begun.view_is in
     let last : c.is_none-last.result ≡ is_none (unsent_on ps (drop (at + 1) items)) = from_not _ c.is_none-last.result c.is_none-last.ensures ∙ none_left _ c.next_unsent-2.result (unsent_on ps (drop (at + 1) c.deref-2.result.now)) c.next_unsent-2.ensures.next ∙ ap (λ l. is_none (unsent_on ps (drop (at + 1) l))) c.deref-2.ensures.value in
     let asked : c.is_data.result ≡ is_data c.args.begun.now.kind = c.is_data.ensures ∙ ap is_data kind in
@@ -57,7 +57,7 @@ returns-else-begun-clause-some g c t w =
     let found : Some (p, drop (at + 1) items) ≡ unsent_on ps (drop b.passed items) = search rules in
     let low : b.passed ≤ at = search rules in
     let did : turns.Did ≡ submit_turn false c.args.journal.now.part.flush = search rules in
-    let out : c.submit.new.self.part ≡ page_out c.args.journal.now.part p c.if-is_data.barrier = ap (λ (x : CommitActor). x.part) (c.in-Did.ensures.part) ∙ sent_out c.args.journal.now.part p c.copy.result c.if-is_data.barrier (search rules) in
+    let out : c.submit.new.self.part ≡ page_out c.args.journal.now.part p c.if-is_data.barrier = ap (λ (x : CommitActor). x.part) (c.in-Did.ensures.part) in
     let id : c.submitted-id.result ≡ length c.args.journal.now.part.flush.requests = search rules in
     let pages : c.mark.new.self.pages ≡ mark_page ps p.birth p.index Firm = ap (λ (x : Cache). x.pages) c.mark.ensures in
     let there : page_at ps p.birth p.index ≡ Some p = search rules in

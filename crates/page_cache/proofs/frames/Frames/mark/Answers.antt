@@ -6,17 +6,17 @@ use Rattle.page_cache.proofs.frames.Frames.mark.Goals as goal
 pub find_key-requires : goal.find_key-requires
 find_key-requires c = rising_keys c.self.inside.frames c.self.inside.places.items _ c.self.inside.keys.items _ c.self.inside.room c.self.invariant
 
-pub index_mut-requires : goal.index_mut-requires
-index_mut-requires c = has_page c.self.inside.frames c.self.inside.places.items _ c.self.inside.keys.items _ c.self.inside.room c.self.invariant c.in-Ok.at c.at.result (within c.self.inside.frames c.self.inside.places.items _ c.self.inside.keys.items _ c.self.inside.room c.self.invariant c.in-Ok.at c.in-Ok.ensures.place.0) c.at.ensures
+pub mark-requires : goal.mark-requires
+mark-requires c = has_page c.self.inside.frames c.self.inside.places.items _ c.self.inside.keys.items _ c.self.inside.room c.self.invariant c.in-Ok.at c.at.result (within c.self.inside.frames c.self.inside.places.items _ c.self.inside.keys.items _ c.self.inside.room c.self.invariant c.in-Ok.at c.in-Ok.ensures.place.0) c.at.ensures
 
 pub invariant_of-self : goal.invariant_of-self
 invariant_of-self c =
-    (frames_mark c.self.inside.frames c.self.inside.places.items _ c.self.inside.keys.items _ c.self.inside.room c.self.invariant _ c.args.birth c.args.index c.in-Ok.at c.at.result c.index_mut.result.now c.args.s (c.in-Ok.ensures.there refl) c.in-Ok.ensures.place.1 (within c.self.inside.frames c.self.inside.places.items _ c.self.inside.keys.items _ c.self.inside.room c.self.invariant c.in-Ok.at c.in-Ok.ensures.place.0) c.at.ensures c.index_mut.ensures.value refl).0
+    (frames_mark c.self.inside.frames c.self.inside.places.items _ c.self.inside.keys.items _ c.self.inside.room c.self.invariant _ c.args.birth c.args.index c.in-Ok.at c.at.result c.args.s (c.in-Ok.ensures.there refl) c.in-Ok.ensures.place.1 (within c.self.inside.frames c.self.inside.places.items _ c.self.inside.keys.items _ c.self.inside.room c.self.invariant c.in-Ok.at c.in-Ok.ensures.place.0) c.at.ensures c.mark.ensures.updates c.mark.ensures.len c.mark.ensures.capacity).0
 
 pub returns-in-Ok : goal.returns-in-Ok
 returns-in-Ok c =
     ap (λ ps. let made : Cache = record { room = c.self.inside.room; pages = ps } in made)
-    (frames_mark c.self.inside.frames c.self.inside.places.items _ c.self.inside.keys.items _ c.self.inside.room c.self.invariant _ c.args.birth c.args.index c.in-Ok.at c.at.result c.index_mut.result.now c.args.s (c.in-Ok.ensures.there refl) c.in-Ok.ensures.place.1 (within c.self.inside.frames c.self.inside.places.items _ c.self.inside.keys.items _ c.self.inside.room c.self.invariant c.in-Ok.at c.in-Ok.ensures.place.0) c.at.ensures c.index_mut.ensures.value refl).1
+    (frames_mark c.self.inside.frames c.self.inside.places.items _ c.self.inside.keys.items _ c.self.inside.room c.self.invariant _ c.args.birth c.args.index c.in-Ok.at c.at.result c.args.s (c.in-Ok.ensures.there refl) c.in-Ok.ensures.place.1 (within c.self.inside.frames c.self.inside.places.items _ c.self.inside.keys.items _ c.self.inside.room c.self.invariant c.in-Ok.at c.in-Ok.ensures.place.0) c.at.ensures c.mark.ensures.updates c.mark.ensures.len c.mark.ensures.capacity).1
     ∙ ap (λ (k : Cache). with_pages k (mark_page k.pages c.args.birth c.args.index c.args.s)) c.self.view_is
 
 pub returns-in_default : goal.returns-in_default

@@ -1,5 +1,5 @@
 use Rattle.std.proofs.Common.{rules, ◌≡◌, Some, None, sym, ap, subst, ◌∙◌}
-use Rattle.std.specs.Option.{option_copied, option_map}
+use Rattle.std.specs.Option.{option_map}
 use Rattle.std.proofs.lemmas.Option.{none-some}
 use Rattle.page_cache.specs.Pages.{Cache, IsRising, key_of, page_at, dirty_page}
 use Rattle.page_cache.proofs.Steps.{none_by, dirty_is, dirty_found}
@@ -8,7 +8,7 @@ use Rattle.page_cache.proofs.pages.Pages.dirty_page.Goals as goal
 pub returns-in_err-birth-clause-page : goal.returns-in_err-birth-clause-page
 returns-in_err-birth-clause-page c =
     let none : c.dirty.result ≡ None = search rules in
-    ap option_copied c.from_residual.ensures ∙ none_by (dirty_page c.args.self.now.pages c.args.pick) (sym c.dirty.ensures ∙ none)
+    c.from_residual.ensures ∙ none_by (dirty_page c.args.self.now.pages c.args.pick) (sym c.dirty.ensures ∙ none)
 
 pub returns-in_err-birth-clause-found : goal.returns-in_err-birth-clause-found
 returns-in_err-birth-clause-found c p e =

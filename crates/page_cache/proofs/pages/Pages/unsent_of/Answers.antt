@@ -1,5 +1,4 @@
 use Rattle.std.proofs.Common.{rules, ◌≡◌, Some, None, sym, ap, ◌∙◌}
-use Rattle.std.specs.Option.{option_copied}
 use Rattle.page_cache.specs.Pages.{Cache, is_unsent, page_at, unsent_of}
 use Rattle.page_cache.specs.code.Keys.{first_of}
 use Rattle.page_cache.proofs.Steps.{list_rising, unsent_is, unsent_is_none, unsent_found}
@@ -11,7 +10,7 @@ first_of-requires-clause-keys c = list_rising is_unsent c.self.inside.pages.page
 pub returns-in_err-birth-clause-page : goal.returns-in_err-birth-clause-page
 returns-in_err-birth-clause-page c =
     let at : first_of c.args.births.now c.self.inside.unsent.items ≡ None = search rules in
-    ap option_copied c.from_residual.ensures ∙ unsent_is_none c.self.inside.pages.pages c.self.inside.unsent.items c.args.births.now c.self.invariant.unsent_listed at
+    c.from_residual.ensures ∙ unsent_is_none c.self.inside.pages.pages c.self.inside.unsent.items c.args.births.now c.self.invariant.unsent_listed at
     ∙ ap (λ (k : Cache). unsent_of k.pages c.args.births.now) c.self.view_is
 
 pub returns-in_err-birth-clause-found : goal.returns-in_err-birth-clause-found
