@@ -1,5 +1,5 @@
 //! Blocks of `BLOCK_BYTES` bytes.
-ghost use Rattle.std.specs.Prelude.{◌≡◌, ℕ, ◌<◌, List, length, slice_set, MatchOption, IsSome, ◌↔◌, IfSome, true};
+ghost use Rattle.std.specs.Prelude.{◌≡◌, ℕ, ◌<◌, List, length, slice_set, MatchOption, IsSome, Some, ◌↔◌, IfSome, true};
 ghost use Rattle.blk_base.specs.Block.{filled};
 
 use std::marker::Model;
@@ -77,7 +77,19 @@ impl Block {
     pub fn is_zeros(&self) -> bool
         ensures { (result ≡ true) ↔ (self.now ≡ filled 0) }
     {
-        are_zeros(&self.bytes)
+        are_all(&self.bytes, 0)
+    }
+
+    /// The byte of which the block is full, where its bytes are all one.
+    pub fn fill_byte(&self) -> Option<u8>
+        ensures { (v : ℕ) → (result ≡ Some v) ↔ (self.now ≡ filled v) }
+    {
+        let v = self.bytes[0];
+        if are_all(&self.bytes, v) {
+            Some(v)
+        } else {
+            None
+        }
     }
 
     /// The same bytes again. It takes no memory.
@@ -88,14 +100,15 @@ impl Block {
     }
 }
 
-// Whether a block's bytes are all 0. It goes to the end, which is compiled to sixteen bytes at a time.
-fn are_zeros(bytes: &[u8]) -> bool
+// Whether a block's bytes are all `v`. It goes to the end, which is compiled to sixteen bytes at a time.
+fn are_all(bytes: &[u8], v: u8) -> bool
     requires { length bytes.now ≡ BLOCK_BYTES }
-    ensures { (result ≡ true) ↔ (bytes.now ≡ filled 0) }
+    ensures { (result ≡ true) ↔ (bytes.now ≡ filled v) }
 {
-    let mut most = 0;
+    let (mut least, mut most) = (v, v);
     for byte in bytes {
+        least = least.min(*byte);
         most = most.max(*byte);
     }
-    most == 0
+    least == most
 }

@@ -311,14 +311,21 @@ fn writes_over_blocks(rt: HostRuntime) -> Result<(), NoMemory> {
     Ok(())
 }
 
-// One byte of 1,024 that is not 0, at each end.
+// One byte of 1,024 that differs, at each end and within.
 #[test]
-fn sees_zeros(rt: HostRuntime) {
+fn sees_blocks_of_one_byte(rt: HostRuntime) {
     assert!(rt; Block::fill(0).is_zeros());
-    for at in [0, 511, 1023] {
-        let mut block = Block::fill(0);
-        block.set(at, 1);
-        assert!(rt; !block.is_zeros());
+    for (fill, other) in [(0, 1), (7, 6), (255, 0)] {
+        assert_eq!(rt; Block::fill(fill).fill_byte(), Some(fill));
+        for at in [0, 511, 1023] {
+            let mut block = Block::fill(fill);
+            block.set(at, other);
+            assert_eq!(rt;
+                (block.is_zeros(), block.fill_byte()),
+                (false, None),
+                "{fill} {at}"
+            );
+        }
     }
 }
 

@@ -1,6 +1,5 @@
 //! How the bodies of pages are kept: one whose bytes are all equal as that byte, and each other in a slot.
-ghost use Rattle.std.specs.Prelude.{◌≡◌, ℕ, length, IfSome, true};
-ghost use Rattle.blk_base.specs.Block.{filled};
+ghost use Rattle.std.specs.Prelude.{◌≡◌};
 ghost use Rattle.slab.specs.Slab.{HasRoomFor};
 ghost use Rattle.page_cache.specs.code.Store.{body_of, slot_in, IsThere, IsKept, IsReleased};
 
@@ -14,28 +13,6 @@ pub enum PageBody {
     Slot(usize),
 }
 
-// The byte of which the block is full, where it is.
-fn fill_of(body: &Block) -> Option<u8>
-    ensures { IfSome result (λ v. body.now ≡ filled v) }
-{
-    let bytes = body.as_slice();
-    let v = bytes[0];
-    if are_all(bytes, v) { Some(v) } else { None }
-}
-
-// Whether a body's bytes are all this one. It goes to the end, which is compiled to sixteen bytes at a time.
-fn are_all(bytes: &[u8], v: u8) -> bool
-    requires { length bytes.now ≡ 1024 }
-    ensures { result ≡ true → bytes.now ≡ filled v }
-{
-    let (mut least, mut most) = (v, v);
-    for byte in bytes {
-        least = least.min(*byte);
-        most = most.max(*byte);
-    }
-    least == most
-}
-
 // Keeps a body. It takes a slot that is free, unless it is full of one byte.
 pub fn keep(bodies: &mut Slab<Block>, body: Block) -> PageBody
     requires { HasRoomFor bodies.old 1 }
@@ -43,7 +20,7 @@ pub fn keep(bodies: &mut Slab<Block>, body: Block) -> PageBody
     ensures kept { IsKept bodies.old bodies.new (slot_in result) }
     ensures capacity { bodies.new.capacity ≡ bodies.old.capacity }
 {
-    match fill_of(&body) {
+    match body.fill_byte() {
         Some(v) => PageBody::Full(v),
         None => PageBody::Slot(bodies.insert_reserved(body)),
     }

@@ -1,9 +1,0 @@
-use Rattle.std.proofs.Common.{◌≡◌, ◌≤◌, take, replicate}
-use Rattle.order_model.proofs.bodies.are_all.Given as goal
-
-abbrev pub invariant-loop-byte : goal.invariant-loop-byte
-invariant-loop-byte l = record {
-  least : l.least ≤ l.v;
-  most : l.v ≤ l.most;
-  full : l.least ≡ l.most → take l.byte-index l.bytes ≡ replicate l.byte-index l.v;
-}
