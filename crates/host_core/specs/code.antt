@@ -3,4 +3,4 @@ pub mod Steps
 pub mod Fields
 pub mod Replies
 pub mod Progress
-pub mod Records
+pub mod HostTraces

@@ -6,7 +6,7 @@
 //!
 //! `host` has the host with the actors' steps, `calling` the callers' step, and `standing` how a caller stands. `stepping`
 //! has a step of a call, on the `host_parts` that calls change, and `call_progress` and `noted_reply` how far that brought
-//! it; `settling` has what the host then notes of the call. `programs` has the callers' calls, and `thread` a caller. `host_record`
+//! it; `settling` has what the host then notes of the call. `programs` has the callers' calls, and `thread` a caller. `host_trace`
 //! has what is kept of a host once its session has ended.
 //!
 //! Stands on `commit_actor` and `flush_actor`, whose parts it has together, on `page_cache`, and on `begun`
@@ -22,7 +22,7 @@ pub mod effects;
 pub mod gates;
 mod host;
 mod host_parts;
-mod host_record;
+mod host_trace;
 pub mod lengths;
 mod noted_reply;
 mod programs;
@@ -33,5 +33,5 @@ mod thread;
 
 pub use crate::at_once::PlainVolume;
 pub use host::Host;
-pub use host_record::HostRecord;
+pub use host_trace::HostTrace;
 pub use programs::Programs;

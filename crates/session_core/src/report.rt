@@ -4,7 +4,7 @@ ghost use Rattle.std.specs.Prelude.{◌≡◌};
 use blk_base::{Block, Image};
 use call_sessions::power_cuts::calls::Attempt;
 use host_answers::Standing;
-use host_core::HostRecord;
+use host_core::HostTrace;
 use order_model::{DeviceRecord, Origins, SchedRecord, Trail};
 use std::marker::Model;
 use volume_ops::Volume;
@@ -61,7 +61,7 @@ pub struct CutRecord {
 #[derive(Drop)]
 pub struct SessionReport {
     /// What is kept of the host.
-    pub host: HostRecord,
+    pub host: HostTrace,
     /// What the scheduler accepted and sent out.
     pub sched: SchedRecord,
     /// What the power cut left.

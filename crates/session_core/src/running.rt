@@ -198,7 +198,7 @@ pub fn recover_session<M: Maker>(
         return Err(NoMemory);
     };
     // What the host held is let go before the mount, which needs memory of its own.
-    let host = host.into_record();
+    let host = host.into_trace();
     let CutDisk {
         image,
         origins,

@@ -1,7 +1,7 @@
 use Rattle.std.proofs.Common.{sym, subst}
 use Rattle.host_core.specs.Entries.{ArePlaced}
 use Rattle.host_core.specs.Now.{HostNow}
-use Rattle.host_core.proofs.host_record.HostRecord.history.Goals as goal
+use Rattle.host_core.proofs.host_trace.HostTrace.history.Goals as goal
 
 pub returns-clause-placed : goal.returns-clause-placed
 returns-clause-placed c =

@@ -10,27 +10,27 @@ use std::marker::Model;
 /// What is kept of a host once its session has ended: what was noted of calls, the cuts, and how many requests there were.
 /// Its volume, its pages and its journal are let go; contracts alone see them.
 #[derive(Drop)]
-pub struct HostRecord {
+pub struct HostTrace {
     history: Vec<Entry>,
     cuts: Vec<u64>,
     submitted: u64,
     host: Trail<Host>,
 }
 
-impl Model for HostRecord {
+impl Model for HostTrace {
     ghost use Rattle.host_core.specs.Now.{HostNow};
-    ghost use Rattle.host_core.specs.code.Records.{IsRecord, first_host};
+    ghost use Rattle.host_core.specs.code.HostTraces.{IsHostTrace, first_host};
 
     ghost Value = { HostNow };
 
-    ghost view = { λ r. first_host r.host.items };
+    ghost view = { λ t. first_host t.host.items };
 
-    ghost invariant = { λ r. IsRecord (first_host r.host.items) r.history.items r.cuts.items r.submitted };
+    ghost invariant = { λ t. IsHostTrace (first_host t.host.items) t.history.items t.cuts.items t.submitted };
 }
 
 impl Host {
     /// What is kept of it once its session has ended.
-    pub fn into_record(self) -> HostRecord
+    pub fn into_trace(self) -> HostTrace
         ensures { result ≡ self }
     {
         let submitted = self.submitted();
@@ -43,7 +43,7 @@ impl Host {
         } = self;
         drop(parts);
         drop(threads);
-        HostRecord {
+        HostTrace {
             history,
             cuts,
             submitted,
@@ -52,7 +52,7 @@ impl Host {
     }
 }
 
-impl HostRecord {
+impl HostTrace {
     /// What was noted of calls.
     pub fn history(&self) -> &[Entry]
         ensures noted { self.now.host.history ≡ map (entry_in self.now.programs) result.now }

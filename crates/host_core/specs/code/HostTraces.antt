@@ -38,7 +38,7 @@ first_host [] = no_host
 first_host (h ∷ hs) = h
 
 -- these are the host's entries, its cuts, and how many requests it submitted
-pub record IsRecord (h : HostNow) (entries : List Entry) (cuts : List ℕ) (submitted : ℕ) : Type 0 where
+pub record IsHostTrace (h : HostNow) (entries : List Entry) (cuts : List ℕ) (submitted : ℕ) : Type 0 where
   pub noted : h.host.history ≡ map (entry_in h.programs) entries
   pub placed : ArePlaced h.programs entries
   pub are_cuts : cuts ≡ h.host.cuts
