@@ -9,6 +9,8 @@ mod calls;
 #[cfg(test)]
 mod events;
 #[cfg(test)]
+mod faults;
+#[cfg(test)]
 mod scripts;
 #[cfg(test)]
 mod session_text;
@@ -16,5 +18,7 @@ mod session_text;
 mod sessions;
 #[cfg(test)]
 mod stores;
+#[cfg(test)]
+mod texts;
 #[cfg(test)]
 mod words;

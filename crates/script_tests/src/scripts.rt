@@ -1,42 +1,48 @@
 //! Scripts that are read, and the faults of texts that are none.
+use crate::faults::{Grammar, MadeRow, Row, expect_faults, expect_made};
+use crate::texts::expect_text;
 use blk_base::Block;
 use order_model::{Kind, Request};
 use script_grammar::ScriptError::Fault;
 use script_grammar::ScriptKind::{Geometry, Number, Order, Twice, Word};
 use script_grammar::{
     CoreEvent, EventLine, EventWord, Form, Header, MOST_SCRIPT_BYTES, RequestList, Script,
-    ScriptError, ScriptKind, accepts_what_is_spelled, read_script, reads_what_is_spelled,
-    tells_first_fault,
+    ScriptKind, accepts_what_is_spelled, read_script, reads_what_is_spelled, tells_first_fault,
 };
 use std::alloc::Global;
 use std::process::Abort;
-use std::test::Fail;
-
-type Row = (&'static str, u32, ScriptKind);
 
 /// A put's block and value, and whether it is ordered and a barrier.
 type Wanted = (Option<(u32, u8)>, bool, bool);
 
-fn read(rt: &impl Abort, alloc: Global, text: &[u8]) -> Result<Script, ScriptError> {
+/// A text, and what is read of it.
+#[derive(Clone, Copy)]
+struct Told {
+    text: &'static [u8],
+    form: Form,
+    blocks: u32,
+    header: Header,
+    requests: &'static [Wanted],
+    events: &'static [EventLine],
+}
+
+// What a script has where no line of its header tells.
+const DEFAULTS: Header = Header {
+    depth: 32,
+    queue: 32,
+    fail: None,
+    cut: None,
+    elevator: false,
+    flash: None,
+};
+
+fn script_of(rt: &impl Abort, alloc: Global, text: &[u8]) -> Script {
     assert!(rt; text.len() <= MOST_SCRIPT_BYTES);
-    read_script(alloc, text)
-}
-
-fn expect_fault(rt: &impl Abort, alloc: Global, text: &[u8], line: u32, kind: ScriptKind) {
-    match read(rt, alloc, text) {
-        Ok(_) => assert!(rt; false, "line {line} of {text:?} is taken"),
-        Err(fault) => assert_eq!(rt; fault, Fault(line, kind), "at {text:?}"),
-    }
-}
-
-fn expect_faults(rt: &impl Abort, alloc: Global, rows: &[Row]) {
-    for (text, line, kind) in rows {
-        expect_fault(rt, alloc, text.as_bytes(), *line, *kind);
-    }
+    let found: Result<Script, _> = read_script(alloc, text);
+    found.expect(rt, "no script")
 }
 
 fn expect_requests(rt: &impl Abort, requests: &RequestList, wanted: &[Wanted]) {
-    assert_eq!(rt; requests.len(), wanted.len());
     for (id, (put, ordered, barrier)) in wanted.iter().enumerate() {
         let kind = match put {
             Some((block, value)) => Kind::Put {
@@ -55,35 +61,53 @@ fn expect_requests(rt: &impl Abort, requests: &RequestList, wanted: &[Wanted]) {
     }
 }
 
-fn event(event: CoreEvent, count: u32) -> EventLine {
-    EventLine {
-        what: EventWord::One(event),
-        count,
+fn expect_told(rt: &impl Abort, script: &Script, told: &Told) {
+    let events = script.events.as_slice();
+    let sizes = (script.blocks(), script.puts.len());
+    let wanted = (told.blocks, told.requests.len());
+    assert_eq!(rt;
+        (script.kind, sizes, script.header, events),
+        (told.form, wanted, told.header, told.events),
+        "at {:?}",
+        told.text
+    );
+    expect_requests(rt, &script.puts, told.requests);
+}
+
+fn expect_scripts(rt: &impl Abort, alloc: Global, rows: &[Told]) {
+    for told in rows {
+        let script = script_of(rt, alloc, told.text);
+        expect_told(rt, &script, told);
     }
 }
 
-// What is read beside the requests.
-fn expect_script(
-    rt: &impl Abort,
-    script: &Script,
-    kind: Form,
-    header: Header,
-    events: &[EventLine],
-) {
-    assert_eq!(rt; (script.kind, script.header), (kind, header));
-    assert_eq!(rt; script.events.as_slice(), events);
+// Scripts that tell nothing but their blocks.
+const DEVICE: Told = Told {
+    text: b"device 4\nevents\n",
+    form: Form::Device(4),
+    blocks: 4,
+    header: DEFAULTS,
+    requests: &[],
+    events: &[],
+};
+
+const BLOCKS: Told = Told {
+    text: b"blocks 4\nevents\n",
+    form: Form::Blocks(4),
+    ..DEVICE
+};
+
+// An event, so often.
+macro_rules! event {
+    ($event:expr, $count:expr) => {
+        EventLine {
+            what: EventWord::One($event),
+            count: $count,
+        }
+    };
 }
 
-fn repeated(alloc: Global, head: &str, line: &str, count: u32) -> Result<Vec<u8>, Fail> {
-    let mut text = Vec::new(alloc);
-    text.extend_from_slice(head.as_bytes())?;
-    for _ in 0..count {
-        text.extend_from_slice(line.as_bytes())?;
-    }
-    Ok(text)
-}
-
-const UNKNOWN_WORDS: [Row; 11] = [
+static UNKNOWN_WORDS: [Row; 11] = [
     ("devise 4\n", 1, Word),
     ("Device 4\n", 1, Word),
     ("names 4\n", 1, Word),
@@ -99,10 +123,10 @@ const UNKNOWN_WORDS: [Row; 11] = [
 
 #[test]
 fn knows_first_words(rt: HostRuntime) {
-    expect_faults(&rt, rt.alloc(), &UNKNOWN_WORDS);
+    expect_faults(&rt, rt.alloc(), Grammar::Script, "", &UNKNOWN_WORDS);
 }
 
-const WRONG_WORDS: [Row; 26] = [
+static WRONG_WORDS: [Row; 26] = [
     ("device\n", 1, Word),
     ("device 4 5\n", 1, Word),
     ("blocks\n", 1, Word),
@@ -133,10 +157,10 @@ const WRONG_WORDS: [Row; 26] = [
 
 #[test]
 fn counts_other_words(rt: HostRuntime) {
-    expect_faults(&rt, rt.alloc(), &WRONG_WORDS);
+    expect_faults(&rt, rt.alloc(), Grammar::Script, "", &WRONG_WORDS);
 }
 
-const WRONG_SPACES: [Row; 21] = [
+static WRONG_SPACES: [Row; 21] = [
     ("device 04\n", 1, Word),
     ("device +4\n", 1, Word),
     ("device -4\n", 1, Word),
@@ -162,10 +186,10 @@ const WRONG_SPACES: [Row; 21] = [
 
 #[test]
 fn parts_words_by_one_space(rt: HostRuntime) {
-    expect_faults(&rt, rt.alloc(), &WRONG_SPACES);
+    expect_faults(&rt, rt.alloc(), Grammar::Script, "", &WRONG_SPACES);
 }
 
-const OUT_OF_ORDER: [Row; 28] = [
+static OUT_OF_ORDER: [Row; 28] = [
     ("", 1, Order),
     ("\n", 2, Order),
     ("# one\n# two\n", 3, Order),
@@ -202,10 +226,10 @@ const OUT_OF_ORDER: [Row; 28] = [
 
 #[test]
 fn keeps_the_order(rt: HostRuntime) {
-    expect_faults(&rt, rt.alloc(), &OUT_OF_ORDER);
+    expect_faults(&rt, rt.alloc(), Grammar::Script, "", &OUT_OF_ORDER);
 }
 
-const LINES_OF_THE_SCHEDULER: [Row; 7] = [
+static LINES_OF_THE_SCHEDULER: [Row; 7] = [
     ("device 4\nqueue 4\n", 2, Order),
     ("device 4\nqueue 0\n", 2, Order),
     ("device 4\nqueue x\n", 2, Order),
@@ -217,30 +241,44 @@ const LINES_OF_THE_SCHEDULER: [Row; 7] = [
 
 #[test]
 fn keeps_the_scheduler_out_of_device_scripts(rt: HostRuntime) {
-    expect_faults(&rt, rt.alloc(), &LINES_OF_THE_SCHEDULER);
+    expect_faults(
+        &rt,
+        rt.alloc(),
+        Grammar::Script,
+        "",
+        &LINES_OF_THE_SCHEDULER,
+    );
 }
+
+// The words of volume scripts, and those behind which they are out of order.
+const WORDS_OF_VOLUMES: &str =
+    "limit seed thread recover mkdir rmdir create unlink link rename truncate write \
+    bytes read list stat fsync fdatasync fbarrier fdatabarrier sync call commit answer round \
+    back";
+
+static BEFORE_WORDS: [(&str, u32); 4] = [
+    ("", 1),
+    ("device 4\n", 2),
+    ("blocks 4\nflush\n", 3),
+    ("blocks 4\nevents\n", 3),
+];
 
 #[test]
-fn knows_words_of_volumes(rt: HostRuntime) -> Result<(), Fail> {
-    let words = "limit seed thread recover mkdir rmdir create unlink link rename truncate write \
-        bytes read list stat fsync fdatasync fbarrier fdatabarrier sync call commit answer round \
-        back";
-    let heads = [
-        ("", 1),
-        ("device 4\n", 2),
-        ("blocks 4\nflush\n", 3),
-        ("blocks 4\nevents\n", 3),
-    ];
-    for (head, line) in heads {
-        for word in words.split(' ') {
-            let text = repeated(rt.alloc(), head, word, 1)?;
-            expect_fault(&rt, rt.alloc(), &text, line, Order);
+fn knows_words_of_volumes(rt: HostRuntime) {
+    for (head, line) in &BEFORE_WORDS {
+        for word in WORDS_OF_VOLUMES.split(' ') {
+            expect_faults(
+                &rt,
+                rt.alloc(),
+                Grammar::Script,
+                head,
+                &[(word, *line, Order)],
+            );
         }
     }
-    Ok(())
 }
 
-const TWO_HEADER_LINES: [Row; 7] = [
+static TWO_HEADER_LINES: [Row; 7] = [
     ("device 4\ndepth 4\ndepth 5\n", 3, Twice),
     ("device 4\ndepth 4\ndepth x\n", 3, Twice),
     ("device 4\ndepth 4\ndepth 0\n", 3, Twice),
@@ -252,10 +290,10 @@ const TWO_HEADER_LINES: [Row; 7] = [
 
 #[test]
 fn tells_header_lines_twice(rt: HostRuntime) {
-    expect_faults(&rt, rt.alloc(), &TWO_HEADER_LINES);
+    expect_faults(&rt, rt.alloc(), Grammar::Script, "", &TWO_HEADER_LINES);
 }
 
-const BAD_FAIL_LINES: [Row; 11] = [
+static BAD_FAIL_LINES: [Row; 11] = [
     ("fail 1\n", 1, Order),
     ("device 4\nevents\nfail 1\n", 3, Order),
     ("blocks 4\nflush\nfail 1\n", 3, Order),
@@ -269,30 +307,42 @@ const BAD_FAIL_LINES: [Row; 11] = [
     ("blocks 4\nfail 1000000001\n", 2, Number),
 ];
 
-const FAIL_LINES: [(&str, Option<u64>); 3] = [
-    ("device 4\nfail 1\nevents\n", Some(1)),
-    (
-        "blocks 4\ncut 1\nfail 1000000000\ndepth 2\nevents\n",
-        Some(1_000_000_000),
-    ),
-    ("blocks 4\ncut 1\nevents\n", None),
+static FAIL_LINES: [Told; 3] = [
+    Told {
+        text: b"device 4\nfail 1\nevents\n",
+        header: Header {
+            fail: Some(1),
+            ..DEFAULTS
+        },
+        ..DEVICE
+    },
+    Told {
+        text: b"blocks 4\ncut 1\nfail 1000000000\ndepth 2\nevents\n",
+        header: Header {
+            depth: 2,
+            fail: Some(1_000_000_000),
+            cut: Some(1),
+            ..DEFAULTS
+        },
+        ..BLOCKS
+    },
+    Told {
+        text: b"blocks 4\ncut 1\nevents\n",
+        header: Header {
+            cut: Some(1),
+            ..DEFAULTS
+        },
+        ..BLOCKS
+    },
 ];
-
-// The header of a script.
-fn header_of(rt: &impl Abort, alloc: Global, text: &str) -> Header {
-    let found: Result<Script, _> = read(rt, alloc, text.as_bytes());
-    found.expect(rt, "no script").header
-}
 
 #[test]
 fn reads_the_line_of_a_failing_transfer(rt: HostRuntime) {
-    expect_faults(&rt, rt.alloc(), &BAD_FAIL_LINES);
-    for (text, fail) in &FAIL_LINES {
-        assert_eq!(rt; header_of(&rt, rt.alloc(), text).fail, *fail, "{text}");
-    }
+    expect_faults(&rt, rt.alloc(), Grammar::Script, "", &BAD_FAIL_LINES);
+    expect_scripts(&rt, rt.alloc(), &FAIL_LINES);
 }
 
-const BAD_ELEVATOR_LINES: [Row; 5] = [
+static BAD_ELEVATOR_LINES: [Row; 5] = [
     ("elevator plain\n", 1, Order),
     ("device 4\nelevator\n", 2, Order),
     ("blocks 4\nflush\nelevator\n", 3, Order),
@@ -300,15 +350,25 @@ const BAD_ELEVATOR_LINES: [Row; 5] = [
     ("blocks 4\nelevator\nelevator plain\n", 3, Twice),
 ];
 
+static ELEVATOR_LINES: [Told; 2] = [
+    Told {
+        text: b"blocks 4\nelevator\nevents\n",
+        header: Header {
+            elevator: true,
+            ..DEFAULTS
+        },
+        ..BLOCKS
+    },
+    BLOCKS,
+];
+
 #[test]
 fn reads_the_line_of_the_elevator(rt: HostRuntime) {
-    expect_faults(&rt, rt.alloc(), &BAD_ELEVATOR_LINES);
-    let with = header_of(&rt, rt.alloc(), "blocks 4\nelevator\nevents\n").elevator;
-    let without = header_of(&rt, rt.alloc(), "blocks 4\nevents\n").elevator;
-    assert_eq!(rt; (with, without), (true, false));
+    expect_faults(&rt, rt.alloc(), Grammar::Script, "", &BAD_ELEVATOR_LINES);
+    expect_scripts(&rt, rt.alloc(), &ELEVATOR_LINES);
 }
 
-const BAD_FLASH_LINES: [Row; 9] = [
+static BAD_FLASH_LINES: [Row; 9] = [
     ("flash 3\n", 1, Order),
     ("device 4\nevents\nflash 3\n", 3, Order),
     ("blocks 4\nflush\nflash 3\n", 3, Order),
@@ -320,21 +380,35 @@ const BAD_FLASH_LINES: [Row; 9] = [
     ("blocks 4\nflash 65\n", 2, Number),
 ];
 
-const FLASH_LINES: [(&str, Option<u32>); 3] = [
-    ("device 4\nflash 3\nevents\n", Some(3)),
-    ("blocks 4\ncut 1\nflash 64\ndepth 2\nevents\n", Some(64)),
-    ("blocks 4\nevents\n", None),
+static FLASH_LINES: [Told; 3] = [
+    Told {
+        text: b"device 4\nflash 3\nevents\n",
+        header: Header {
+            flash: Some(3),
+            ..DEFAULTS
+        },
+        ..DEVICE
+    },
+    Told {
+        text: b"blocks 4\ncut 1\nflash 64\ndepth 2\nevents\n",
+        header: Header {
+            depth: 2,
+            cut: Some(1),
+            flash: Some(64),
+            ..DEFAULTS
+        },
+        ..BLOCKS
+    },
+    BLOCKS,
 ];
 
 #[test]
 fn reads_the_line_of_the_flash_log(rt: HostRuntime) {
-    expect_faults(&rt, rt.alloc(), &BAD_FLASH_LINES);
-    for (text, flash) in &FLASH_LINES {
-        assert_eq!(rt; header_of(&rt, rt.alloc(), text).flash, *flash, "{text}");
-    }
+    expect_faults(&rt, rt.alloc(), Grammar::Script, "", &BAD_FLASH_LINES);
+    expect_scripts(&rt, rt.alloc(), &FLASH_LINES);
 }
 
-const OUTSIDE_LIMITS: [Row; 23] = [
+static OUTSIDE_LIMITS: [Row; 23] = [
     ("device 0\n", 1, Number),
     ("device 4097\n", 1, Number),
     ("device 99999999999999999999999\n", 1, Number),
@@ -362,52 +436,62 @@ const OUTSIDE_LIMITS: [Row; 23] = [
 
 #[test]
 fn keeps_the_limits(rt: HostRuntime) {
-    expect_faults(&rt, rt.alloc(), &OUTSIDE_LIMITS);
+    expect_faults(&rt, rt.alloc(), Grammar::Script, "", &OUTSIDE_LIMITS);
 }
 
+// As many steps of events and requests as there may be, and more.
+static MOST: [MadeRow; 4] = [
+    (("blocks 4\nevents\n", "submit x 1000000\n", 20, ""), None),
+    (
+        (
+            "blocks 4\nevents\n",
+            "submit x 1000000\n",
+            20,
+            "dispatch 0\n",
+        ),
+        Some(Fault(23, Number)),
+    ),
+    (
+        ("device 4\n", "put 0 1a free\n", 10_001, ""),
+        Some(Fault(10_002, Number)),
+    ),
+    (
+        ("device 4\n", "put 0 1a free\n", 10_000, "flush\n"),
+        Some(Fault(10_002, Number)),
+    ),
+];
+
 #[test]
-fn counts_events_and_requests(rt: HostRuntime) -> Result<(), Fail> {
-    let alloc = rt.alloc();
-
-    let mut events = repeated(alloc, "blocks 4\nevents\n", "submit x 1000000\n", 20)?;
-    assert!(rt; read(&rt, alloc, &events).is_ok());
-    events.extend_from_slice(b"dispatch 0\n")?;
-    expect_fault(&rt, alloc, &events, 23, Number);
-
-    let puts = repeated(alloc, "device 4\n", "put 0 1a free\n", 10_001)?;
-    expect_fault(&rt, alloc, &puts, 10_002, Number);
-
-    let mut flushes = repeated(alloc, "device 4\n", "put 0 1a free\n", 10_000)?;
-    flushes.extend_from_slice(b"flush\n")?;
-    expect_fault(&rt, alloc, &flushes, 10_002, Number);
-    Ok(())
+fn counts_events_and_requests(rt: HostRuntime) {
+    expect_made(&rt, rt.alloc(), Grammar::Script, &MOST);
 }
 
-#[test]
-fn takes_defaults(rt: HostRuntime) -> Result<(), Fail> {
-    let rows = [
-        ("device 1\nevents\n", Form::Device(1)),
-        ("blocks 1\nevents", Form::Blocks(1)),
-    ];
-    let header = Header {
-        depth: 32,
-        queue: 32,
-        fail: None,
-        cut: None,
-        elevator: false,
-        flash: None,
-    };
-    for (text, kind) in rows {
-        let script = read(&rt, rt.alloc(), text.as_bytes())?;
-        expect_script(&rt, &script, kind, header, &[]);
-        assert_eq!(rt; (script.blocks(), script.puts.is_empty()), (1, true));
-    }
-    Ok(())
-}
+static DEFAULT_SCRIPTS: [Told; 2] = [
+    Told {
+        text: b"device 1\nevents\n",
+        form: Form::Device(1),
+        blocks: 1,
+        header: DEFAULTS,
+        requests: &[],
+        events: &[],
+    },
+    Told {
+        text: b"blocks 1\nevents",
+        form: Form::Blocks(1),
+        blocks: 1,
+        header: DEFAULTS,
+        requests: &[],
+        events: &[],
+    },
+];
 
 #[test]
-fn reads_device_scripts(rt: HostRuntime) -> Result<(), Fail> {
-    let text = b"# a comment
+fn takes_defaults(rt: HostRuntime) {
+    expect_scripts(&rt, rt.alloc(), &DEFAULT_SCRIPTS);
+}
+
+static DEVICE_SCRIPTS: [Told; 1] = [Told {
+    text: b"# a comment
 device 4096
 
 depth 64
@@ -421,35 +505,34 @@ events
 receive x 1000000
 # \xff
 transfer 4294967295
-persist 0 x 2";
-    let script = read_script(rt.alloc(), text)?;
-    let requests = [
+persist 0 x 2",
+    form: Form::Device(4096),
+    blocks: 4096,
+    header: Header {
+        depth: 64,
+        cut: Some(1_000_000_000),
+        ..DEFAULTS
+    },
+    requests: &[
         (Some((4095, 0xf0)), true, true),
         (Some((0, 0x0a)), true, false),
         (Some((1, 0)), false, false),
         (None, true, true),
-    ];
-    expect_requests(&rt, &script.puts, &requests);
-    let header = Header {
-        depth: 64,
-        queue: 32,
-        fail: None,
-        cut: Some(1_000_000_000),
-        elevator: false,
-        flash: None,
-    };
-    let events = [
-        event(CoreEvent::Receive, 1_000_000),
-        event(CoreEvent::Transfer(4_294_967_295), 1),
-        event(CoreEvent::Persist(0), 2),
-    ];
-    expect_script(&rt, &script, Form::Device(4096), header, &events);
-    Ok(())
-}
+    ],
+    events: &[
+        event!(CoreEvent::Receive, 1_000_000),
+        event!(CoreEvent::Transfer(4_294_967_295), 1),
+        event!(CoreEvent::Persist(0), 2),
+    ],
+}];
 
 #[test]
-fn reads_blocks_scripts(rt: HostRuntime) -> Result<(), Fail> {
-    let text = b"blocks 2
+fn reads_device_scripts(rt: HostRuntime) {
+    expect_scripts(&rt, rt.alloc(), &DEVICE_SCRIPTS);
+}
+
+static BLOCKS_SCRIPTS: [Told; 1] = [Told {
+    text: b"blocks 2
 cut 0
 queue 64
 depth 1
@@ -463,62 +546,79 @@ receive
 transfer 7 x 1000000
 persist 10
 submit x 2
-";
-    let script = read_script(rt.alloc(), text)?;
-    let requests = [(None, true, true), (Some((1, 0xff)), false, false)];
-    expect_requests(&rt, &script.puts, &requests);
-    let header = Header {
+",
+    form: Form::Blocks(2),
+    blocks: 2,
+    header: Header {
         depth: 1,
         queue: 64,
-        fail: None,
         cut: Some(0),
-        elevator: false,
-        flash: None,
-    };
-    let events = [
-        event(CoreEvent::Submit, 1),
-        event(CoreEvent::Accept, 1),
-        event(CoreEvent::Dispatch(4_294_967_295), 3),
-        event(CoreEvent::Receive, 1),
-        event(CoreEvent::Transfer(7), 1_000_000),
-        event(CoreEvent::Persist(10), 1),
-        event(CoreEvent::Submit, 2),
-    ];
-    expect_script(&rt, &script, Form::Blocks(2), header, &events);
-    Ok(())
-}
+        ..DEFAULTS
+    },
+    requests: &[(None, true, true), (Some((1, 0xff)), false, false)],
+    events: &[
+        event!(CoreEvent::Submit, 1),
+        event!(CoreEvent::Accept, 1),
+        event!(CoreEvent::Dispatch(4_294_967_295), 3),
+        event!(CoreEvent::Receive, 1),
+        event!(CoreEvent::Transfer(7), 1_000_000),
+        event!(CoreEvent::Persist(10), 1),
+        event!(CoreEvent::Submit, 2),
+    ],
+}];
 
 #[test]
-fn prints_kinds(rt: HostRuntime) -> Result<(), Fail> {
-    let rows = [
-        (Word, "word"),
-        (Order, "order"),
-        (Twice, "twice"),
-        (Number, "number"),
-        (Geometry, "geometry"),
-    ];
-    for (kind, text) in rows {
-        assert_eq!(rt; format!(in rt.alloc(); "{kind}")?.as_str(), text);
+fn reads_blocks_scripts(rt: HostRuntime) {
+    expect_scripts(&rt, rt.alloc(), &BLOCKS_SCRIPTS);
+}
+
+static KINDS: [(ScriptKind, &str); 5] = [
+    (Word, "word"),
+    (Order, "order"),
+    (Twice, "twice"),
+    (Number, "number"),
+    (Geometry, "geometry"),
+];
+
+#[test]
+fn prints_kinds(rt: HostRuntime) {
+    for (kind, wanted) in &KINDS {
+        let text: Option<String> = format!(in rt.alloc(); "{kind}").ok();
+        expect_text(&rt, text, wanted, wanted);
     }
-    Ok(())
 }
 
 // How many requests a copy of the front has.
-fn front_len(alloc: Global, requests: &RequestList, count: usize) -> Result<usize, Fail> {
-    Ok(requests.copy_front(alloc, count)?.len())
+fn front_len(rt: &impl Abort, alloc: Global, requests: &RequestList, count: usize) -> usize {
+    requests
+        .copy_front(alloc, count)
+        .expect(rt, "no copy")
+        .len()
+}
+
+// Of copies of the front 0, 2, 3 and 4.
+fn fronts(rt: &impl Abort, alloc: Global, requests: &RequestList) -> [usize; 4] {
+    [
+        front_len(rt, alloc, requests, 0),
+        front_len(rt, alloc, requests, 2),
+        front_len(rt, alloc, requests, 3),
+        front_len(rt, alloc, requests, 4),
+    ]
+}
+
+// How many requests and event lines a copy has.
+fn copy_len(rt: &impl Abort, alloc: Global, script: &Script) -> [usize; 2] {
+    let copy = script.copy(alloc).expect(rt, "no copy");
+    [copy.puts.len(), copy.events.as_slice().len()]
 }
 
 #[test]
-fn copies_scripts(rt: HostRuntime) -> Result<(), Fail> {
-    let alloc = rt.alloc();
-    let script = read_script(alloc, b"device 1\nflush\nflush\nflush\nevents\nreceive\n")?;
-    let copy = script.copy(alloc)?;
-    assert_eq!(rt; [copy.puts.len(), copy.events.as_slice().len()], [3, 1]);
-    for (count, wanted) in [(0, 0), (2, 2), (3, 3), (4, 3)] {
-        let front = front_len(alloc, &script.puts, count)?;
-        assert_eq!(rt; front, wanted, "of {count}");
-    }
-    Ok(())
+fn copies_scripts(rt: HostRuntime) {
+    let text = b"device 1\nflush\nflush\nflush\nevents\nreceive\n";
+    let script = script_of(&rt, rt.alloc(), text);
+    let copy = copy_len(&rt, rt.alloc(), &script);
+    let fronts = fronts(&rt, rt.alloc(), &script.puts);
+    assert_eq!(rt; (copy, fronts), ([3, 1], [0, 2, 3, 3]));
 }
 
 #[test]

@@ -1,82 +1,35 @@
 //! Volume scripts that were read by hand, and the faults of texts that are none.
+use crate::faults::{Grammar, MadeRow, Row, expect_faults, expect_made};
+use crate::texts::{Text, expect_text, made};
 use line_grammar::events::{CoreEvent, EventLine, EventWord};
+use script_grammar::MOST_SCRIPT_BYTES;
+use script_grammar::ScriptError::Fault;
 use script_grammar::ScriptKind::{Geometry, Number, Order, Twice, Word};
-use script_grammar::{MOST_SCRIPT_BYTES, ScriptError, ScriptKind};
 use session_grammar::{
     SessionHeader, SessionScript, read_session, sessions_are_read_back,
     sessions_are_what_is_spelled, sessions_tell_first_fault,
 };
-use std::alloc::{AllocError, Global};
+use std::alloc::Global;
 use std::process::Abort;
-use std::test::Fail;
-
-type Row = (&'static str, u32, ScriptKind);
 
 const V: &str = "volume inodes 32 zones 64 journal 128\n";
 
-// A text of several parts.
-fn text(alloc: Global, parts: &[&str]) -> Result<Vec<u8>, AllocError> {
-    let mut text = Vec::new(alloc);
-    for part in parts {
-        text.extend_from_slice(part.as_bytes())?;
-    }
-    Ok(text)
+/// Inodes, zones, blocks of the journal, bytes of a name, and whether tags are wide.
+type Volume = (u16, u16, u32, u16, bool);
+
+/// A text, and what is read of it.
+#[derive(Clone, Copy)]
+pub struct Told {
+    pub text: Text,
+    pub volume: Volume,
+    /// How many threads, lines of calls, and recoveries there are.
+    pub counts: [usize; 3],
+    pub header: SessionHeader,
+    pub events: &'static [EventLine],
 }
 
-// A line so often, in a section of a volume's script.
-fn repeated(
-    alloc: Global,
-    section: &str,
-    line: &str,
-    count: u32,
-    rest: &str,
-) -> Result<Vec<u8>, AllocError> {
-    let mut text = text(alloc, &[V, section])?;
-    for _ in 0..count {
-        text.extend_from_slice(line.as_bytes())?;
-    }
-    text.extend_from_slice(rest.as_bytes())?;
-    Ok(text)
-}
-
-fn read(rt: &impl Abort, alloc: Global, text: &[u8]) -> Result<SessionScript, ScriptError> {
-    assert!(rt; text.len() <= MOST_SCRIPT_BYTES);
-    read_session(alloc, text)
-}
-
-fn expect_fault(rt: &impl Abort, alloc: Global, text: &[u8], line: u32, kind: ScriptKind) {
-    match read(rt, alloc, text) {
-        Ok(_) => assert!(rt; false, "line {line} of {text:?} is taken"),
-        Err(fault) => assert_eq!(rt; fault, ScriptError::Fault(line, kind), "at {text:?}"),
-    }
-}
-
-fn expect_faults(rt: &impl Abort, alloc: Global, rows: &[Row]) {
-    for (text, line, kind) in rows {
-        expect_fault(rt, alloc, text.as_bytes(), *line, *kind);
-    }
-}
-
-// The text of a script with these parts.
-fn made_text(rt: &impl Abort, alloc: Global, parts: &[&str]) -> Vec<u8> {
-    let made: Result<Vec<u8>, _> = text(alloc, parts);
-    made.expect(rt, "no text")
-}
-
-// The same behind the first line of a volume.
-fn expect_behind(rt: &impl Abort, alloc: Global, rows: &[Row]) {
-    for (rest, line, kind) in rows {
-        let whole = made_text(rt, alloc, &[V, rest]);
-        expect_fault(rt, alloc, &whole, *line, *kind);
-    }
-}
-
-fn event(what: EventWord, count: u32) -> EventLine {
-    EventLine { what, count }
-}
-
-// What a script has where no line of its header tells.
-const DEFAULTS: SessionHeader = SessionHeader {
+/// What a script has where no line of its header tells.
+pub const DEFAULTS: SessionHeader = SessionHeader {
     depth: 32,
     queue: 32,
     limit: 20_000,
@@ -87,179 +40,269 @@ const DEFAULTS: SessionHeader = SessionHeader {
     elevator: false,
 };
 
-// The script of a text with these parts.
-fn script_of(rt: &impl Abort, alloc: Global, parts: &[&str]) -> SessionScript {
-    let whole = made_text(rt, alloc, parts);
-    let found: Result<SessionScript, _> = read(rt, alloc, &whole);
+// A script that tells nothing but its volume.
+const BARE: Told = Told {
+    text: (V, "events\n", 1, ""),
+    volume: (32, 64, 128, 14, false),
+    counts: [0, 0, 0],
+    header: DEFAULTS,
+    events: &[],
+};
+
+fn script_of(rt: &impl Abort, alloc: Global, text: &Text) -> SessionScript {
+    let whole = made(rt, alloc, text);
+    assert!(rt; whole.len() <= MOST_SCRIPT_BYTES);
+    let found: Result<SessionScript, _> = read_session(alloc, &whole);
     found.expect(rt, "no script")
 }
 
-// The header of a script, and how many threads it has.
-fn header_of(rt: &impl Abort, alloc: Global, parts: &[&str]) -> (SessionHeader, usize) {
-    let script = script_of(rt, alloc, parts);
-    (script.header, script.programs.len())
+fn volume_of(script: &SessionScript) -> Volume {
+    let (inodes, zones) = (script.inodes, script.zones);
+    (inodes, zones, script.journal, script.width, script.wide)
 }
 
-// The inodes, the zones and the journal, and how many lines of calls and recoveries there are.
-fn sizes(script: &SessionScript) -> (u16, u16, u32, usize, usize) {
+fn counts_of(script: &SessionScript) -> [usize; 3] {
     let lines = script.lines.as_slice().len();
     let recovers = script.recovers.as_slice().len();
-    (script.inodes, script.zones, script.journal, lines, recovers)
+    [script.programs.len(), lines, recovers]
 }
 
-fn expect_events(rt: &impl Abort, script: &SessionScript, wanted: &[EventLine]) {
-    assert_eq!(rt; script.events.as_slice(), wanted);
+/// What is told of a script, beside its calls and recoveries.
+pub fn expect_told(rt: &impl Abort, script: &SessionScript, told: &Told) {
+    let (volume, counts) = (volume_of(script), counts_of(script));
+    let events = script.events.as_slice();
+    assert_eq!(rt;
+        (volume, counts, script.header, events),
+        (told.volume, told.counts, told.header, told.events),
+        "at {:?}",
+        told.text
+    );
 }
+
+fn expect_scripts(rt: &impl Abort, alloc: Global, rows: &[Told]) {
+    for told in rows {
+        let script = script_of(rt, alloc, &told.text);
+        expect_told(rt, &script, told);
+    }
+}
+
+// An event of thread 1 or of the commit, so often.
+macro_rules! event {
+    ($event:expr, $count:expr) => {
+        EventLine {
+            what: EventWord::One($event),
+            count: $count,
+        }
+    };
+}
+
+/// The lines of the calls of a script, thread by thread.
+pub fn lines_of(alloc: Global, script: &SessionScript) -> Option<String> {
+    let mut text = Vec::new(alloc);
+    for line in script.lines.as_slice() {
+        text.extend_from_slice(line.as_slice()).ok()?;
+        text.push(b'\n').ok()?;
+    }
+    String::from_utf8(text).ok()
+}
+
+fn programs_of(alloc: Global, script: &SessionScript) -> Option<String> {
+    format!(in alloc; "{:?}", script.programs).ok()
+}
+
+static CALLS: Told = Told {
+    text: (
+        V,
+        "thread 1\nmkdir /a\ncreate /a/f\nwrite /a/f 0 3 61\nfbarrier /a/f\n",
+        1,
+        "events\ncall 1 x 6\ncommit x 10\ncall 1\n",
+    ),
+    counts: [1, 4, 0],
+    events: &[
+        event!(CoreEvent::Call(1), 6),
+        event!(CoreEvent::Commit, 10),
+        event!(CoreEvent::Call(1), 1),
+    ],
+    ..BARE
+};
+
+static PROGRAMS: &str =
+    "Programs { threads: [Program { calls: [Mkdir(ByteList { bytes: [47, 97] }), Create(ByteList { bytes: [47, 97, 47, 102] }), Write { path: ByteList { bytes: [47, 97, 47, 102] }, off: 0, len: 3, value: 97 }, Fbarrier(ByteList { bytes: [47, 97, 47, 102] })] }] }";
+
+static LINES: &str = "mkdir /a\ncreate /a/f\nwrite /a/f 0 3 61\nfbarrier /a/f\n";
 
 #[test]
-fn reads_threads_and_events(rt: HostRuntime) -> Result<(), Fail> {
-    let alloc = rt.alloc();
-    let calls = "thread 1\nmkdir /a\ncreate /a/f\nwrite /a/f 0 3 61\nfbarrier /a/f\n";
-    let events = "events\ncall 1 x 6\ncommit x 10\ncall 1\n";
-    let script = script_of(&rt, alloc, &[V, calls, events]);
-    let sizes = sizes(&script);
-    assert_eq!(rt; (sizes, script.header), ((32, 64, 128, 4, 0), DEFAULTS));
-    let programs = format!(in alloc; "{:?}", script.programs)?;
-    assert_eq!(rt;
-        programs.as_str(),
-        "Programs { threads: [Program { calls: [Mkdir(ByteList { bytes: [47, 97] }), Create(ByteList { bytes: [47, 97, 47, 102] }), Write { path: ByteList { bytes: [47, 97, 47, 102] }, off: 0, len: 3, value: 97 }, Fbarrier(ByteList { bytes: [47, 97, 47, 102] })] }] }"
-    );
-    let third = script.lines.as_slice().get(2).map(|line| line.as_slice());
-    assert_eq!(rt; third, Some(b"write /a/f 0 3 61".as_slice()));
-    let wanted = [
-        event(EventWord::One(CoreEvent::Call(1)), 6),
-        event(EventWord::One(CoreEvent::Commit), 10),
-        event(EventWord::One(CoreEvent::Call(1)), 1),
-    ];
-    expect_events(&rt, &script, &wanted);
+fn reads_threads_and_events(rt: HostRuntime) {
+    let script = script_of(&rt, rt.alloc(), &CALLS.text);
+    expect_told(&rt, &script, &CALLS);
+    expect_text(&rt, programs_of(rt.alloc(), &script), PROGRAMS, "programs");
+    expect_text(&rt, lines_of(rt.alloc(), &script), LINES, "lines");
     sessions_tell_first_fault();
     sessions_are_read_back();
     sessions_are_what_is_spelled();
-    Ok(())
 }
+
+static CONFLICTS: [Told; 1] = [Told {
+    text: (
+        V,
+        "thread 1\nmkdir /a\nfbarrier /a\nmkdir /b\nfbarrier /b\n",
+        1,
+        "events\ncall 1 x 3\ncommit x 10\ncall 1 x 4\ncommit x 5\nback 100\ncall 1\n",
+    ),
+    counts: [1, 4, 0],
+    events: &[
+        event!(CoreEvent::Call(1), 3),
+        event!(CoreEvent::Commit, 10),
+        event!(CoreEvent::Call(1), 4),
+        event!(CoreEvent::Commit, 5),
+        EventLine {
+            what: EventWord::Back,
+            count: 100,
+        },
+        event!(CoreEvent::Call(1), 1),
+    ],
+    ..BARE
+}];
 
 #[test]
 fn reads_conflicts(rt: HostRuntime) {
-    let alloc = rt.alloc();
-    let calls = "thread 1\nmkdir /a\nfbarrier /a\nmkdir /b\nfbarrier /b\n";
-    let events = "events\ncall 1 x 3\ncommit x 10\ncall 1 x 4\ncommit x 5\nback 100\ncall 1\n";
-    let script = script_of(&rt, alloc, &[V, calls, events]);
-    assert_eq!(rt; script.lines.as_slice().len(), 4);
-    let wanted = [
-        event(EventWord::One(CoreEvent::Call(1)), 3),
-        event(EventWord::One(CoreEvent::Commit), 10),
-        event(EventWord::One(CoreEvent::Call(1)), 4),
-        event(EventWord::One(CoreEvent::Commit), 5),
-        event(EventWord::Back, 100),
-        event(EventWord::One(CoreEvent::Call(1)), 1),
-    ];
-    expect_events(&rt, &script, &wanted);
+    expect_scripts(&rt, rt.alloc(), &CONFLICTS);
 }
+
+static RECOVERIES: Told = Told {
+    text: (
+        V,
+        "thread 1\nmkdir /a\ncreate /a/f\nwrite /a/f 0 3 61\nfsync /a/f\n",
+        1,
+        "events\nround 100\nrecover d3\nrecover t0 t0 p1\nrecover",
+    ),
+    counts: [1, 4, 3],
+    events: &[EventLine {
+        what: EventWord::Round,
+        count: 100,
+    }],
+    ..BARE
+};
 
 // A line for the steps of each recovery.
-fn recoveries(alloc: Global, script: &SessionScript) -> Result<String, AllocError> {
+fn recoveries(alloc: Global, script: &SessionScript) -> Option<String> {
     let mut lines = String::new(alloc);
     for line in script.recovers.as_slice() {
-        writeln!(lines, "{:?}", line.as_slice())?;
+        writeln!(lines, "{:?}", line.as_slice()).ok()?;
     }
-    Ok(lines)
+    Some(lines)
 }
 
+static STEERS: &str = "[Default(3)]\n[Transfer(0), Transfer(0), Persist(1)]\n[]\n";
+
 #[test]
-fn reads_recoveries(rt: HostRuntime) -> Result<(), Fail> {
-    let alloc = rt.alloc();
-    let calls = "thread 1\nmkdir /a\ncreate /a/f\nwrite /a/f 0 3 61\nfsync /a/f\n";
-    let events = "events\nround 100\nrecover d3\nrecover t0 t0 p1\nrecover";
-    let script = script_of(&rt, alloc, &[V, calls, events]);
-    expect_events(&rt, &script, &[event(EventWord::Round, 100)]);
-    let steers = recoveries(alloc, &script)?;
-    assert_eq!(rt;
-        steers.as_str(),
-        "[Default(3)]\n[Transfer(0), Transfer(0), Persist(1)]\n[]\n"
-    );
-    Ok(())
+fn reads_recoveries(rt: HostRuntime) {
+    let script = script_of(&rt, rt.alloc(), &RECOVERIES.text);
+    expect_told(&rt, &script, &RECOVERIES);
+    expect_text(&rt, recoveries(rt.alloc(), &script), STEERS, "recoveries");
 }
+
+const CALL: &str = "thread 1\ncreate /f\nwrite /f 0 2048 aa\nfbarrier /f\nevents\ncall 1 x 5";
+
+// What is read of them with no other header line.
+const CALLING: Told = Told {
+    text: (V, "", 1, CALL),
+    counts: [1, 3, 0],
+    events: &[event!(CoreEvent::Call(1), 5)],
+    ..BARE
+};
+
+static HEADERS: [Told; 5] = [
+    Told {
+        text: (V, "queue 1\n", 1, CALL),
+        header: SessionHeader {
+            queue: 1,
+            ..DEFAULTS
+        },
+        ..CALLING
+    },
+    Told {
+        text: (V, "limit 1\n", 1, CALL),
+        header: SessionHeader {
+            limit: 1,
+            ..DEFAULTS
+        },
+        ..CALLING
+    },
+    Told {
+        text: (V, "fail 1\n", 1, CALL),
+        header: SessionHeader {
+            fail: Some(1),
+            ..DEFAULTS
+        },
+        ..CALLING
+    },
+    Told {
+        text: (V, "flash 3\n", 1, CALL),
+        header: SessionHeader {
+            flash: Some(3),
+            ..DEFAULTS
+        },
+        ..CALLING
+    },
+    Told {
+        text: (
+            V,
+            "# all of them\n\nseed 7\nelevator\nflash 64\nfail 1000000000\ncut 0\ndepth 64\nlimit 200000\nqueue 64\nevents\n",
+            1,
+            "",
+        ),
+        header: SessionHeader {
+            depth: 64,
+            queue: 64,
+            limit: 200_000,
+            fail: Some(1_000_000_000),
+            cut: Some(0),
+            seed: 7,
+            flash: Some(64),
+            elevator: true,
+        },
+        ..BARE
+    },
+];
 
 #[test]
 fn reads_headers(rt: HostRuntime) {
-    let alloc = rt.alloc();
-    let calls = "thread 1\ncreate /f\nwrite /f 0 2048 aa\nfbarrier /f\nevents\ncall 1 x 5";
-    let all =
-        "# all of them\n\nseed 7\nelevator\nflash 64\nfail 1000000000\ncut 0\ndepth 64\nlimit 200000\nqueue 64\nevents\n";
-    let told = SessionHeader {
-        depth: 64,
-        queue: 64,
-        limit: 200_000,
-        fail: Some(1_000_000_000),
-        cut: Some(0),
-        seed: 7,
-        flash: Some(64),
-        elevator: true,
-    };
-    let rows = [
-        (
-            "queue 1\n",
-            calls,
-            SessionHeader {
-                queue: 1,
-                ..DEFAULTS
-            },
-            1,
-        ),
-        (
-            "limit 1\n",
-            calls,
-            SessionHeader {
-                limit: 1,
-                ..DEFAULTS
-            },
-            1,
-        ),
-        (
-            "fail 1\n",
-            calls,
-            SessionHeader {
-                fail: Some(1),
-                ..DEFAULTS
-            },
-            1,
-        ),
-        (
-            "flash 3\n",
-            calls,
-            SessionHeader {
-                flash: Some(3),
-                ..DEFAULTS
-            },
-            1,
-        ),
-        (all, "", told, 0),
-    ];
-    for (first, rest, header, threads) in rows {
-        let found = header_of(&rt, alloc, &[V, first, rest]);
-        assert_eq!(rt; found, (header, threads));
-    }
+    expect_scripts(&rt, rt.alloc(), &HEADERS);
 }
+
+const SIZES: &str = "volume inodes 32 zones 7 journal 128";
 
 // The last words of the first line choose the width of names and the tags of the journal.
+static KINDS: [Told; 4] = [
+    Told {
+        text: (SIZES, "", 1, "\nevents\n"),
+        volume: (32, 7, 128, 14, false),
+        ..BARE
+    },
+    Told {
+        text: (SIZES, " tags 64", 1, "\nevents\n"),
+        volume: (32, 7, 128, 14, true),
+        ..BARE
+    },
+    Told {
+        text: (SIZES, " names 30", 1, "\nevents\n"),
+        volume: (32, 7, 128, 30, false),
+        ..BARE
+    },
+    Told {
+        text: (SIZES, " names 30 tags 64", 1, "\nevents\n"),
+        volume: (32, 7, 128, 30, true),
+        ..BARE
+    },
+];
+
 #[test]
 fn reads_kinds_of_volumes(rt: HostRuntime) {
-    let alloc = rt.alloc();
-    let rows = [
-        ("", 14, false),
-        (" tags 64", 14, true),
-        (" names 30", 30, false),
-        (" names 30 tags 64", 30, true),
-    ];
-    for (kind, width, wide) in rows {
-        let first = "volume inodes 32 zones 7 journal 128";
-        let script = script_of(&rt, alloc, &[first, kind, "\nevents\n"]);
-        assert_eq!(rt; sizes(&script), (32, 7, 128, 0, 0));
-        assert_eq!(rt; (script.width, script.wide), (width, wide), "at {kind}");
-    }
+    expect_scripts(&rt, rt.alloc(), &KINDS);
 }
 
-const WRONG_NAMES: [Row; 18] = [
+static WRONG_NAMES: [Row; 18] = [
     ("names 30\n", 1, Word),
     ("volume inodes 32 zones 64 journal 128\nnames 30\n", 2, Word),
     ("volume inodes 32 zones 64 journal 128 names\n", 1, Word),
@@ -315,10 +358,10 @@ const WRONG_NAMES: [Row; 18] = [
 
 #[test]
 fn tests_names(rt: HostRuntime) {
-    expect_faults(&rt, rt.alloc(), &WRONG_NAMES);
+    expect_faults(&rt, rt.alloc(), Grammar::Session, "", &WRONG_NAMES);
 }
 
-const WRONG_TAGS: [Row; 13] = [
+static WRONG_TAGS: [Row; 13] = [
     ("tags 64\n", 1, Word),
     ("volume inodes 32 zones 64 journal 128\ntags 64\n", 2, Word),
     ("volume inodes 32 zones 64 journal 128 tags\n", 1, Word),
@@ -345,10 +388,10 @@ const WRONG_TAGS: [Row; 13] = [
 
 #[test]
 fn tests_tags(rt: HostRuntime) {
-    expect_faults(&rt, rt.alloc(), &WRONG_TAGS);
+    expect_faults(&rt, rt.alloc(), Grammar::Session, "", &WRONG_TAGS);
 }
 
-const WRONG_FIRST_LINES: [Row; 23] = [
+static WRONG_FIRST_LINES: [Row; 23] = [
     ("", 1, Order),
     ("\n# nothing\n", 3, Order),
     ("device 3\nevents\n", 1, Order),
@@ -380,10 +423,10 @@ const WRONG_FIRST_LINES: [Row; 23] = [
 
 #[test]
 fn tests_first_lines(rt: HostRuntime) {
-    expect_faults(&rt, rt.alloc(), &WRONG_FIRST_LINES);
+    expect_faults(&rt, rt.alloc(), Grammar::Session, "", &WRONG_FIRST_LINES);
 }
 
-const BEHIND_THE_FIRST_LINE: [Row; 35] = [
+static BEHIND_THE_FIRST_LINE: [Row; 35] = [
     ("put 0 11 free\n", 2, Order),
     ("flush\n", 2, Order),
     ("blocks 3\n", 2, Order),
@@ -423,10 +466,10 @@ const BEHIND_THE_FIRST_LINE: [Row; 35] = [
 
 #[test]
 fn tests_order(rt: HostRuntime) {
-    expect_behind(&rt, rt.alloc(), &BEHIND_THE_FIRST_LINE);
+    expect_faults(&rt, rt.alloc(), Grammar::Session, V, &BEHIND_THE_FIRST_LINE);
 }
 
-const WRONG_NUMBERS: [Row; 20] = [
+static WRONG_NUMBERS: [Row; 20] = [
     ("depth 0\n", 2, Number),
     ("queue 65\n", 2, Number),
     ("limit 0\n", 2, Number),
@@ -460,86 +503,96 @@ const WRONG_NUMBERS: [Row; 20] = [
 
 #[test]
 fn tests_numbers(rt: HostRuntime) {
-    expect_behind(&rt, rt.alloc(), &WRONG_NUMBERS);
+    expect_faults(&rt, rt.alloc(), Grammar::Session, V, &WRONG_NUMBERS);
 }
 
-// The text in which a line stands so often.
-fn lines_of(
-    rt: &impl Abort,
-    alloc: Global,
-    section: &str,
-    line: &str,
-    count: u32,
-    rest: &str,
-) -> Vec<u8> {
-    let made: Result<Vec<u8>, _> = repeated(alloc, section, line, count, rest);
-    made.expect(rt, "no text")
-}
+const THREAD: &str = "volume inodes 32 zones 64 journal 128\nthread 1\n";
+
+static MOST_LINES: [Told; 1] = [Told {
+    text: (THREAD, "sync\n", 10_000, "thread 2\nsync\nevents\n"),
+    counts: [2, 10_001, 0],
+    ..BARE
+}];
+
+static MORE_LINES: [MadeRow; 2] = [
+    ((THREAD, "sync\n", 10_001, ""), Some(Fault(10_003, Number))),
+    (
+        (
+            "volume inodes 32 zones 64 journal 128\nevents\n",
+            "recover t0\n",
+            101,
+            "",
+        ),
+        Some(Fault(103, Number)),
+    ),
+];
 
 #[test]
 fn counts_lines(rt: HostRuntime) {
-    let rest = "thread 2\nsync\nevents\n";
-    let most = lines_of(&rt, rt.alloc(), "thread 1\n", "sync\n", 10_000, rest);
-    assert_eq!(rt; threads_and_seed(&rt, rt.alloc(), &most), (2, 1));
-    let calls = lines_of(&rt, rt.alloc(), "thread 1\n", "sync\n", 10_001, "");
-    expect_fault(&rt, rt.alloc(), &calls, 10_003, Number);
-    let recovers = lines_of(&rt, rt.alloc(), "events\n", "recover t0\n", 101, "");
-    expect_fault(&rt, rt.alloc(), &recovers, 103, Number);
+    expect_scripts(&rt, rt.alloc(), &MOST_LINES);
+    expect_made(&rt, rt.alloc(), Grammar::Session, &MORE_LINES);
 }
 
 const THREADS: &str =
     "thread 1\nthread 2\nthread 3\nthread 4\nthread 5\nthread 6\nthread 7\nthread 8\nthread 9\n\
                        thread 10\nthread 11\nthread 12\nthread 13\nthread 14\nthread 15\nthread 16\n";
 
-// How many threads a text has that is a script, and its seed.
-fn threads_and_seed(rt: &impl Abort, alloc: Global, text: &[u8]) -> (usize, u64) {
-    let found: Result<SessionScript, _> = read(rt, alloc, text);
-    let script = found.expect(rt, "no script");
-    (script.programs.len(), script.header.seed)
-}
+static SIXTEEN_THREADS: [Told; 1] = [Told {
+    text: (V, THREADS, 1, "events\n"),
+    counts: [16, 0, 0],
+    ..BARE
+}];
+
+static SEVENTEEN_THREADS: [MadeRow; 1] = [(
+    (V, THREADS, 1, "thread 17\n"),
+    Some(Fault(18, Number)),
+)];
 
 // The first number of threads that is too great.
 #[test]
 fn keeps_sixteen_threads(rt: HostRuntime) {
-    let most = made_text(&rt, rt.alloc(), &[V, THREADS, "events\n"]);
-    assert_eq!(rt; threads_and_seed(&rt, rt.alloc(), &most), (16, 1));
-    let more = made_text(&rt, rt.alloc(), &[V, THREADS, "thread 17\n"]);
-    expect_fault(&rt, rt.alloc(), &more, 18, Number);
+    expect_scripts(&rt, rt.alloc(), &SIXTEEN_THREADS);
+    expect_made(&rt, rt.alloc(), Grammar::Session, &SEVENTEEN_THREADS);
 }
 
 // The least and the greatest seed.
-#[test]
-fn keeps_seeds(rt: HostRuntime) {
-    let least = made_text(&rt, rt.alloc(), &[V, "seed 0\nevents\n"]);
-    let greatest = made_text(&rt, rt.alloc(), &[V, "seed 1000000000\nevents\n"]);
-    let seeds = [
-        threads_and_seed(&rt, rt.alloc(), &least),
-        threads_and_seed(&rt, rt.alloc(), &greatest),
-    ];
-    assert_eq!(rt; seeds, [(0, 0), (0, 1_000_000_000)]);
-}
-
-/// What stands before a piece, the piece, how often it may stand there, and what stands behind it.
-type Most = (&'static str, &'static str, u32, &'static str);
-
-// The words of a recovery and the digits of bytes.
-const MOST: [Most; 2] = [
-    ("events\nrecover", " t0", 1_000, "\n"),
-    ("thread 1\nbytes /a 0 ", "61", 1_024, "\nevents\n"),
+static SEEDS: [Told; 2] = [
+    Told {
+        text: (V, "seed 0\n", 1, "events\n"),
+        header: SessionHeader {
+            seed: 0,
+            ..DEFAULTS
+        },
+        ..BARE
+    },
+    Told {
+        text: (V, "seed 1000000000\n", 1, "events\n"),
+        header: SessionHeader {
+            seed: 1_000_000_000,
+            ..DEFAULTS
+        },
+        ..BARE
+    },
 ];
 
-fn expect_most(rt: &impl Abort, alloc: Global, row: &Most) {
-    let (section, piece, most, rest) = *row;
-    let whole = lines_of(rt, alloc, section, piece, most, rest);
-    assert!(rt; read(rt, alloc, &whole).is_ok());
-    let more = lines_of(rt, alloc, section, piece, most.saturating_add(1), rest);
-    expect_fault(rt, alloc, &more, 3, Word);
+#[test]
+fn keeps_seeds(rt: HostRuntime) {
+    expect_scripts(&rt, rt.alloc(), &SEEDS);
 }
 
+const RECOVER: &str = "volume inodes 32 zones 64 journal 128\nevents\nrecover";
+
+const BYTES: &str = "volume inodes 32 zones 64 journal 128\nthread 1\nbytes /a 0 ";
+
 // As many words of a recovery and digits of bytes as there may be, and one more.
+static MOST: [MadeRow; 4] = [
+    ((RECOVER, " t0", 1_000, "\n"), None),
+    ((RECOVER, " t0", 1_001, "\n"), Some(Fault(3, Word))),
+    ((BYTES, "61", 1_024, "\nevents\n"), None),
+    ((BYTES, "61", 1_025, "\nevents\n"), Some(Fault(3, Word))),
+];
+
 #[test]
 fn keeps_the_most_of_each(rt: HostRuntime) {
-    for row in &MOST {
-        expect_most(&rt, rt.alloc(), row);
-    }
+    expect_made(&rt, rt.alloc(), Grammar::Session, &MOST);
 }

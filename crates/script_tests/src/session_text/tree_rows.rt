@@ -3,15 +3,14 @@
 
 ghost use Rattle.minix_layout.specs.Widths.{IsWidth};
 
+use crate::calls::call;
 use crate::session_text::reply_texts::text;
+use crate::texts::expect_text;
 use blk_base::NoMemory;
-use line_grammar::calls::{read_call, read_call_word};
 use minix_layout::DEFAULT_WIDTH;
-use script_words::words;
 use std::alloc::Global;
 use std::marker::Model;
 use std::process::Abort;
-use std::test::Fail;
 use tree_calls::{apply_plain, calls_keep_trees_countable, needs};
 use tree_model::{Call, Directory, Names, Node, Reply, Room, Tree, calls_keep_trees_plain};
 
@@ -21,19 +20,12 @@ const SMALL: Room = Room {
     capacity: 59,
 };
 
+/// A line of a call, and its reply.
+type Row = (&'static str, &'static str);
+
 // The call of a line.
 fn call_of(alloc: Global, line: &[u8]) -> Result<Call, NoMemory> {
-    let found = words(alloc, line)?;
-    let Some((first, rest)) = found.as_slice().split_first() else {
-        return Err(NoMemory);
-    };
-    let Some(word) = read_call_word(first) else {
-        return Err(NoMemory);
-    };
-    match read_call(alloc, word, rest) {
-        Ok(call) => Ok(call),
-        Err(_) => Err(NoMemory),
-    }
+    call(alloc, line).ok().ok_or(NoMemory)
 }
 
 // The tree of a new volume after calls, which are counted from 1.
@@ -72,9 +64,12 @@ impl Session {
         Ok(Session { tree, next: 1 })
     }
 
-    // How many zones a call would take.
-    fn zones(&self, alloc: Global, call: &Call) -> Result<u128, NoMemory> {
-        needs(alloc, &self.tree, self.next, call)
+    // How many zones the call of a line would take.
+    fn zones(&self, alloc: Global, line: &[u8]) -> Result<u128, NoMemory> {
+        let call = call_of(alloc, line)?;
+        let zones = needs(alloc, &self.tree, self.next, &call);
+        drop(call);
+        zones
     }
 
     // Does a call.
@@ -86,171 +81,191 @@ impl Session {
         self.next = after;
         Ok(reply)
     }
+
+    fn reply(&mut self, alloc: Global, line: &[u8]) -> Result<Reply, NoMemory> {
+        let call = call_of(alloc, line)?;
+        let reply = self.answer(alloc, &call);
+        drop(call);
+        reply
+    }
+
+    fn reply_text(&mut self, alloc: Global, line: &[u8]) -> Option<String> {
+        let reply = self.reply(alloc, line).ok()?;
+        let shown = text(alloc, &reply);
+        drop(reply);
+        shown
+    }
+
+    // Does the calls of these lines, one after the other, each of which has this reply.
+    fn expect(&mut self, rt: &impl Abort, alloc: Global, rows: &[(&str, &str)]) {
+        for (line, reply) in rows {
+            expect_text(rt, self.reply_text(alloc, line.as_bytes()), reply, line);
+        }
+    }
+
+    // Gives the root names of one file, so many that its slots fill a block.
+    fn fill(&mut self, rt: &impl Abort, alloc: Global, names: u32) {
+        self.expect(rt, alloc, &[("create /0", "ok")]);
+        for name in 1..names {
+            let line = format!(in alloc; "link /0 /{name}").expect(rt, "no text");
+            self.expect(rt, alloc, &[(&line, "ok")]);
+        }
+    }
+
+    // One name more takes a zone.
+    fn expect_another(&mut self, rt: &impl Abort, alloc: Global, rows: &[Row]) {
+        let zones = self.zones(alloc, b"link /0 /more");
+        assert_eq!(rt; zones, Ok(1), "before {rows:?}");
+        self.expect(rt, alloc, rows);
+    }
 }
 
-// Does the calls of these lines on a new tree, one after the other, each of which has this reply.
-fn expect_replies(
-    rt: &impl Abort,
-    alloc: Global,
-    width: u16,
-    rows: &[(&'static str, &'static str)],
-) -> Result<(), Fail>
+// The calls of these lines on a new tree.
+fn expect_replies(rt: &impl Abort, alloc: Global, width: u16, rows: &[Row])
     requires { IsWidth width }
 {
-    let mut session = Session::new(alloc, width)?;
-    for (line, reply) in rows {
-        let call = call_of(alloc, line.as_bytes())?;
-        let found = text(alloc, &session.answer(alloc, &call)?)?;
-        assert_eq!(rt; found.as_str(), *reply, "{line}");
-    }
-    Ok(())
+    let mut session = Session::new(alloc, width).expect(rt, "no memory");
+    session.expect(rt, alloc, rows);
 }
+
+static LAST_BLOCK: [Row; 4] = [
+    ("create /f", "ok"),
+    ("write /f 268965888 1024 aa", "ok"),
+    ("write /f 268966912 1 aa", "too big"),
+    ("stat /f", "file size 268966912 links 1"),
+];
 
 #[test]
-fn writes_up_to_the_last_block(rt: HostRuntime) -> Result<(), Fail> {
-    let rows = [
-        ("create /f", "ok"),
-        ("write /f 268965888 1024 aa", "ok"),
-        ("write /f 268966912 1 aa", "too big"),
-        ("stat /f", "file size 268966912 links 1"),
-    ];
-    expect_replies(&rt, rt.alloc(), DEFAULT_WIDTH, &rows)?;
-    Ok(())
+fn writes_up_to_the_last_block(rt: HostRuntime) {
+    expect_replies(&rt, rt.alloc(), DEFAULT_WIDTH, &LAST_BLOCK);
 }
+
+static NAMES_AND_KINDS: [Row; 8] = [
+    ("mkdir /a", "ok"),
+    ("mkdir /a", "exists"),
+    ("create /a/abcdefghijklmn", "ok"),
+    ("create /a/abcdefghijklmno", "name too long"),
+    ("rmdir /a", "not empty"),
+    ("unlink /a", "is a directory"),
+    ("list /a", "names abcdefghijklmn"),
+    ("rename /a /a/b", "invalid"),
+];
 
 #[test]
-fn refuses_names_and_kinds(rt: HostRuntime) -> Result<(), Fail> {
-    let rows = [
-        ("mkdir /a", "ok"),
-        ("mkdir /a", "exists"),
-        ("create /a/abcdefghijklmn", "ok"),
-        ("create /a/abcdefghijklmno", "name too long"),
-        ("rmdir /a", "not empty"),
-        ("unlink /a", "is a directory"),
-        ("list /a", "names abcdefghijklmn"),
-        ("rename /a /a/b", "invalid"),
-    ];
-    expect_replies(&rt, rt.alloc(), DEFAULT_WIDTH, &rows)?;
-    Ok(())
+fn refuses_names_and_kinds(rt: HostRuntime) {
+    expect_replies(&rt, rt.alloc(), DEFAULT_WIDTH, &NAMES_AND_KINDS);
 }
+
+static LONG_NAMES: [Row; 10] = [
+    ("mkdir /abcdefghijklmno", "ok"),
+    (
+        "create /abcdefghijklmno/abcdefghijklmnopqrstuvwxyz-123",
+        "ok",
+    ),
+    (
+        "link /abcdefghijklmno/abcdefghijklmnopqrstuvwxyz-123 /b",
+        "ok",
+    ),
+    ("create /abcdefghijklmnopqrstuvwxyz-1234", "name too long"),
+    ("list /abcdefghijklmnopqrstuvwxyz-1234/c", "name too long"),
+    (
+        "list /abcdefghijklmno",
+        "names abcdefghijklmnopqrstuvwxyz-123",
+    ),
+    ("stat /abcdefghijklmno", "dir size 96 links 2"),
+    ("rename /b /abcdefghijklmno/b", "ok"),
+    ("stat /abcdefghijklmno", "dir size 128 links 2"),
+    ("stat /", "dir size 128 links 3"),
+];
 
 #[test]
-fn takes_long_names(rt: HostRuntime) -> Result<(), Fail> {
-    let rows = [
-        ("mkdir /abcdefghijklmno", "ok"),
-        (
-            "create /abcdefghijklmno/abcdefghijklmnopqrstuvwxyz-123",
-            "ok",
-        ),
-        (
-            "link /abcdefghijklmno/abcdefghijklmnopqrstuvwxyz-123 /b",
-            "ok",
-        ),
-        ("create /abcdefghijklmnopqrstuvwxyz-1234", "name too long"),
-        ("list /abcdefghijklmnopqrstuvwxyz-1234/c", "name too long"),
-        (
-            "list /abcdefghijklmno",
-            "names abcdefghijklmnopqrstuvwxyz-123",
-        ),
-        ("stat /abcdefghijklmno", "dir size 96 links 2"),
-        ("rename /b /abcdefghijklmno/b", "ok"),
-        ("stat /abcdefghijklmno", "dir size 128 links 2"),
-        ("stat /", "dir size 128 links 3"),
-    ];
-    expect_replies(&rt, rt.alloc(), 30, &rows)?;
-    Ok(())
+fn takes_long_names(rt: HostRuntime) {
+    expect_replies(&rt, rt.alloc(), 30, &LONG_NAMES);
 }
 
-// Gives the root of a new tree names of one file, so many that its slots fill a block, and tells the size that it has then,
-// the zones that one more name takes, and the size with that name.
-fn filled(alloc: Global, width: u16, names: u32) -> Result<(String, u128, String), Fail>
+// A new tree whose root has so many names takes one more.
+fn expect_full(rt: &impl Abort, alloc: Global, width: u16, names: u32, rows: &[Row])
     requires { IsWidth width }
 {
-    let mut session = Session::new(alloc, width)?;
-    session.answer(alloc, &call_of(alloc, b"create /0")?)?;
-    for name in 1..names {
-        let line = format!(in alloc; "link /0 /{name}")?;
-        session.answer(alloc, &call_of(alloc, line.as_bytes())?)?;
-    }
-    let stat = call_of(alloc, b"stat /")?;
-    let before = text(alloc, &session.answer(alloc, &stat)?)?;
-    let more = call_of(alloc, b"link /0 /more")?;
-    let zones = session.zones(alloc, &more)?;
-    session.answer(alloc, &more)?;
-    Ok((before, zones, text(alloc, &session.answer(alloc, &stat)?)?))
+    let mut session = Session::new(alloc, width).expect(rt, "no memory");
+    session.fill(rt, alloc, names);
+    session.expect_another(rt, alloc, rows);
 }
+
+static FULL_OF_SHORT_NAMES: [Row; 3] = [
+    ("stat /", "dir size 1024 links 2"),
+    ("link /0 /more", "ok"),
+    ("stat /", "dir size 1040 links 2"),
+];
+
+static FULL_OF_LONG_NAMES: [Row; 3] = [
+    ("stat /", "dir size 1024 links 2"),
+    ("link /0 /more", "ok"),
+    ("stat /", "dir size 1056 links 2"),
+];
 
 // A block has 64 slots with short names and 32 with long ones, and two are those of the root itself.
 #[test]
-fn a_full_block_of_slots_takes_another(rt: HostRuntime) -> Result<(), Fail> {
-    let (before, zones, after) = filled(rt.alloc(), DEFAULT_WIDTH, 62)?;
-    assert_eq!(rt;
-        (before.as_str(), zones, after.as_str()),
-        ("dir size 1024 links 2", 1, "dir size 1040 links 2")
-    );
-    let (before, zones, after) = filled(rt.alloc(), 30, 30)?;
-    assert_eq!(rt;
-        (before.as_str(), zones, after.as_str()),
-        ("dir size 1024 links 2", 1, "dir size 1056 links 2")
-    );
-    Ok(())
+fn a_full_block_of_slots_takes_another(rt: HostRuntime) {
+    expect_full(&rt, rt.alloc(), DEFAULT_WIDTH, 62, &FULL_OF_SHORT_NAMES);
+    expect_full(&rt, rt.alloc(), 30, 30, &FULL_OF_LONG_NAMES);
 }
 
-#[test]
-fn reads_cuts_and_refuses_paths(rt: HostRuntime) -> Result<(), Fail> {
-    let rows = [
-        ("mkdir /a", "ok"),
-        ("create /a/abcdefghijklmn", "ok"),
-        ("read /a/abcdefghijklmn 0 5", "bytes -"),
-        ("truncate /a/abcdefghijklmn 3", "ok"),
-        ("read /a/abcdefghijklmn 0 5", "bytes 3x00"),
-        ("create a", "bad path"),
-        ("create /a/abcdefghijklmn/z", "not a directory"),
-        ("create /b/z", "not found"),
-        ("rmdir /", "invalid"),
-        ("stat /", "dir size 48 links 3"),
-    ];
-    expect_replies(&rt, rt.alloc(), DEFAULT_WIDTH, &rows)?;
-    Ok(())
-}
+static PATHS: [Row; 10] = [
+    ("mkdir /a", "ok"),
+    ("create /a/abcdefghijklmn", "ok"),
+    ("read /a/abcdefghijklmn 0 5", "bytes -"),
+    ("truncate /a/abcdefghijklmn 3", "ok"),
+    ("read /a/abcdefghijklmn 0 5", "bytes 3x00"),
+    ("create a", "bad path"),
+    ("create /a/abcdefghijklmn/z", "not a directory"),
+    ("create /b/z", "not found"),
+    ("rmdir /", "invalid"),
+    ("stat /", "dir size 48 links 3"),
+];
 
 #[test]
-fn takes_names_away(rt: HostRuntime) -> Result<(), Fail> {
-    let rows = [
-        ("create /f", "ok"),
-        ("link /f /g", "ok"),
-        ("unlink /f", "ok"),
-        ("mkdir /a", "ok"),
-        ("rename /g /a/h", "ok"),
-        ("stat /a/h", "file size 0 links 1"),
-        ("list /", "names a"),
-        ("unlink /a/h", "ok"),
-        ("rmdir /a", "ok"),
-        ("stat /a", "not found"),
-    ];
-    expect_replies(&rt, rt.alloc(), DEFAULT_WIDTH, &rows)?;
-    Ok(())
+fn reads_cuts_and_refuses_paths(rt: HostRuntime) {
+    expect_replies(&rt, rt.alloc(), DEFAULT_WIDTH, &PATHS);
 }
 
+static NAMES_TAKEN_AWAY: [Row; 10] = [
+    ("create /f", "ok"),
+    ("link /f /g", "ok"),
+    ("unlink /f", "ok"),
+    ("mkdir /a", "ok"),
+    ("rename /g /a/h", "ok"),
+    ("stat /a/h", "file size 0 links 1"),
+    ("list /", "names a"),
+    ("unlink /a/h", "ok"),
+    ("rmdir /a", "ok"),
+    ("stat /a", "not found"),
+];
+
 #[test]
-fn writes_over_and_cuts(rt: HostRuntime) -> Result<(), Fail> {
-    let rows = [
-        ("create /f", "ok"),
-        ("write /f 0 2000 61", "ok"),
-        ("write /f 0 3 62", "ok"),
-        ("stat /f", "file size 2000 links 1"),
-        ("read /f 0 5", "bytes 3x62+2x61"),
-        ("read /f 1998 10", "bytes 2x61"),
-        ("bytes /f 1023 6364", "ok"),
-        ("read /f 1022 4", "bytes 1x61+1x63+1x64+1x61"),
-        ("truncate /f 1500", "ok"),
-        ("truncate /f 3000", "ok"),
-        ("read /f 1498 4", "bytes 2x61+2x00"),
-        ("read /f 2990 20", "bytes 10x00"),
-        ("write /f 5000 1 65", "ok"),
-        ("stat /f", "file size 5001 links 1"),
-        ("read /f 2999 2002", "bytes 2001x00+1x65"),
-    ];
-    expect_replies(&rt, rt.alloc(), DEFAULT_WIDTH, &rows)?;
-    Ok(())
+fn takes_names_away(rt: HostRuntime) {
+    expect_replies(&rt, rt.alloc(), DEFAULT_WIDTH, &NAMES_TAKEN_AWAY);
+}
+
+static WRITES: [Row; 15] = [
+    ("create /f", "ok"),
+    ("write /f 0 2000 61", "ok"),
+    ("write /f 0 3 62", "ok"),
+    ("stat /f", "file size 2000 links 1"),
+    ("read /f 0 5", "bytes 3x62+2x61"),
+    ("read /f 1998 10", "bytes 2x61"),
+    ("bytes /f 1023 6364", "ok"),
+    ("read /f 1022 4", "bytes 1x61+1x63+1x64+1x61"),
+    ("truncate /f 1500", "ok"),
+    ("truncate /f 3000", "ok"),
+    ("read /f 1498 4", "bytes 2x61+2x00"),
+    ("read /f 2990 20", "bytes 10x00"),
+    ("write /f 5000 1 65", "ok"),
+    ("stat /f", "file size 5001 links 1"),
+    ("read /f 2999 2002", "bytes 2001x00+1x65"),
+];
+
+#[test]
+fn writes_over_and_cuts(rt: HostRuntime) {
+    expect_replies(&rt, rt.alloc(), DEFAULT_WIDTH, &WRITES);
 }

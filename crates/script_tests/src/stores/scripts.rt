@@ -1,19 +1,20 @@
 //! Scripts of stores that were read by hand, and the faults of texts that are none.
-ghost use Rattle.std.specs.Prelude.{IfOk};
 ghost use Rattle.store_grammar.specs.WellFormed.{IsWellFormed};
 
+use crate::faults::{Grammar, Row, expect_faults};
+use crate::sessions;
+use crate::sessions::{Told, expect_told};
+use crate::texts::expect_text;
+use script_grammar::MOST_SCRIPT_BYTES;
 use script_grammar::ScriptKind::{Number, Order, Twice, Word};
-use script_grammar::{MOST_SCRIPT_BYTES, ScriptError, ScriptKind};
-use session_grammar::SessionScript;
-use std::alloc::{AllocError, Global};
+use session_grammar::{SessionHeader, SessionScript};
+use std::alloc::Global;
 use std::process::Abort;
 use store_grammar::{
     StoreHeader, StoreScript, made_scripts_are_well_formed, read_store, stores_are_read_back,
     stores_are_what_is_spelled, stores_tell_first_fault, volume_script,
 };
 use wal_store::Op;
-
-type Row = (&'static str, u32, ScriptKind);
 
 // A store of which no header line tells.
 const DEFAULTS: StoreHeader = StoreHeader {
@@ -23,7 +24,7 @@ const DEFAULTS: StoreHeader = StoreHeader {
     cut: None,
 };
 
-const FAULTS: [Row; 41] = [
+static FAULTS: [Row; 41] = [
     ("", 1, Order),
     ("store 4", 2, Order),
     ("# none\n\nstore 4\nput a 1\n", 5, Order),
@@ -72,78 +73,77 @@ const FAULTS: [Row; 41] = [
     ("store 4\nevents\nrecover u1\n", 3, Word),
 ];
 
-fn read(rt: &impl Abort, alloc: Global, text: &[u8]) -> Result<StoreScript, ScriptError>
-    ensures { IfOk result IsWellFormed }
-{
-    assert!(rt; text.len() <= MOST_SCRIPT_BYTES);
-    read_store(alloc, text)
-}
-
-fn fault_of(rt: &impl Abort, alloc: Global, text: &[u8]) -> Option<ScriptError> {
-    read(rt, alloc, text).err()
-}
-
 #[test]
 fn tells_first_faults(rt: HostRuntime) {
-    for (text, line, kind) in &FAULTS {
-        let fault = fault_of(&rt, rt.alloc(), text.as_bytes());
-        assert_eq!(rt;
-            fault,
-            Some(ScriptError::Fault(*line, *kind)),
-            "at {text:?}"
-        );
-    }
+    expect_faults(&rt, rt.alloc(), Grammar::Store, "", &FAULTS);
     stores_tell_first_fault();
     stores_are_read_back();
     stores_are_what_is_spelled();
 }
 
+fn script_of(rt: &impl Abort, alloc: Global, text: &str) -> StoreScript
+    ensures { IsWellFormed result }
+{
+    let text = text.as_bytes();
+    assert!(rt; text.len() <= MOST_SCRIPT_BYTES);
+    let found: Result<StoreScript, _> = read_store(alloc, text);
+    found.expect(rt, "no script")
+}
+
 // What is asked, as a line for each.
-fn asked(alloc: Global, script: &StoreScript) -> Result<String, AllocError> {
+fn asked(alloc: Global, script: &StoreScript) -> Option<String> {
     let mut lines = String::new(alloc);
     for op in script.ops.as_slice() {
-        match op {
+        let written: Result<(), _> = match op {
             Op::Put(put) => {
                 let (key, value) = (put.key.as_slice(), put.value.as_slice());
-                writeln!(lines, "{key:?} {value:?}")?;
+                writeln!(lines, "{key:?} {value:?}")
             }
-            Op::Flush => writeln!(lines, "flush")?,
-        }
+            Op::Flush => writeln!(lines, "flush"),
+        };
+        written.ok()?;
     }
-    Ok(lines)
+    Some(lines)
 }
+
+static ASKED: &str = "[97] [49]\n[98] [50]\n[97] [51]\nflush\n";
 
 #[test]
-fn reads_stores(rt: HostRuntime) -> Result<(), AllocError> {
+fn reads_stores(rt: HostRuntime) {
     let text = "store 4\nput a 1\nput b 2\nput a 3\nflush\nevents\nround 200\nrecover d3";
-    let script = read(&rt, rt.alloc(), text.as_bytes()).expect(&rt, "no script");
+    let script = script_of(&rt, rt.alloc(), text);
     assert_eq!(rt; (script.room, script.header), (4, DEFAULTS));
-    let asked = asked(rt.alloc(), &script)?;
-    assert_eq!(rt; asked.as_str(), "[97] [49]\n[98] [50]\n[97] [51]\nflush\n");
-    Ok(())
-}
-
-// How many zones and calls the session of a script has, and its header.
-fn made(script: &SessionScript) -> (u16, u16, u32, usize, Option<u64>, Option<u64>) {
-    let calls = script.lines.as_slice().len();
-    let header = script.header;
-    (
-        script.inodes,
-        script.zones,
-        script.journal,
-        calls,
-        header.fail,
-        header.cut,
-    )
+    expect_text(&rt, asked(rt.alloc(), &script), ASKED, "what is asked");
 }
 
 // A log of 65 blocks is filled by two calls.
+static FULL_LOG: Told = Told {
+    text: (
+        "store 65\nfail 8\ncut 27\nput a 1\nput b 2\nflush\nevents\n",
+        "",
+        0,
+        "",
+    ),
+    volume: (32, 81, 128, 14, false),
+    counts: [1, 9, 0],
+    header: SessionHeader {
+        fail: Some(8),
+        cut: Some(27),
+        ..sessions::DEFAULTS
+    },
+    events: &[],
+};
+
+// The script of the session that a store's script makes.
+fn session_of(rt: &impl Abort, alloc: Global, text: &str) -> SessionScript {
+    made_scripts_are_well_formed();
+    let script = script_of(rt, alloc, text);
+    let made: Result<SessionScript, _> = volume_script(alloc, &script);
+    made.expect(rt, "no memory")
+}
+
 #[test]
 fn makes_volume_scripts(rt: HostRuntime) {
-    let text = "store 65\nfail 8\ncut 27\nput a 1\nput b 2\nflush\nevents\n";
-    let script = read(&rt, rt.alloc(), text.as_bytes()).expect(&rt, "no script");
-    made_scripts_are_well_formed();
-    let made_of: Result<SessionScript, _> = volume_script(rt.alloc(), &script);
-    let session = made_of.expect(&rt, "no memory");
-    assert_eq!(rt; made(&session), (32, 81, 128, 9, Some(8), Some(27)));
+    let session = session_of(&rt, rt.alloc(), FULL_LOG.text.0);
+    expect_told(&rt, &session, &FULL_LOG);
 }
