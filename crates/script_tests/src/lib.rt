@@ -1,7 +1,8 @@
 //! Tests of scripts: words and numbers, the lines of calls and events, and the two grammars with the first fault of texts
-//! that are no scripts.
+//! that are no scripts, and generated workloads.
 //!
-//! Stands on `script_words`, `line_grammar::calls`, `line_grammar::events`, `script_grammar` and `session_grammar`.
+//! Stands on `script_words`, `line_grammar::calls`, `line_grammar::events`, `script_grammar`, `session_grammar` and
+//! `session_report::bulk`.
 #![tactic(auto)]
 
 #[cfg(test)]
@@ -22,3 +23,5 @@ mod stores;
 mod texts;
 #[cfg(test)]
 mod words;
+#[cfg(test)]
+mod workloads;

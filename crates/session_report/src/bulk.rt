@@ -11,8 +11,6 @@ mod limits;
 mod summary;
 mod word;
 mod workload;
-#[cfg(test)]
-mod workload_tests;
 
 pub use law::workloads_are_scripts;
 pub use limits::MOST_GENERATED;
