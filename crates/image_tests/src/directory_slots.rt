@@ -9,154 +9,190 @@ use minix_tables::directories::{
     Slots, added_names_are_found, led_names_stay, names_are_found, removed_names_are_gone,
     room_is_the_least_free_place,
 };
-use std::alloc::{AllocError, Global};
+use std::alloc::Global;
 use std::process::Abort;
-use std::test::Fail;
 use volume_model::slots_in;
 use volume_ops::Disk;
 
-// Adds a slot under a name that is new.
-fn add(slots: &mut Slots, inode: u16, name: &Name) -> Option<usize> {
-    if slots.find(name).is_some() {
+// What is done with slots. A name is one byte here.
+#[derive(Clone, Copy)]
+enum Step {
+    Look,
+    Add(u8, u16),
+    Remove(u8),
+    Lead(usize, u16),
+    Reserve,
+    Truncate(usize),
+    // The inode in this slot.
+    InodeAt(usize),
+}
+
+use Step::{Add, InodeAt, Lead, Look, Remove, Reserve, Truncate};
+
+// The number of slots, where the next name goes, and where two names stand.
+type Seen = (usize, usize, Option<usize>, Option<usize>);
+
+// A step, the place or the inode that it is answered, and what is seen behind it.
+type Row = (Step, Option<usize>, Seen);
+
+fn name_of(rt: &impl Abort, byte: u8) -> Name {
+    Name::of(&[byte]).expect(rt, "no name")
+}
+
+// Adds a slot under a name that is new, and tells its place.
+fn add(slots: &mut Slots, inode: u16, name: Name) -> Option<usize> {
+    if slots.find(&name).is_some() {
         return None;
     }
-    let slot = Slot {
-        inode,
-        name: name.copy(),
-    };
-    slots.add(slot).ok()
+    slots.add(Slot { inode, name }).ok()
 }
 
-// The number of slots, where the next name goes, and where these two stand.
-fn seen(slots: &Slots, a: &Name, b: &Name) -> (usize, usize, Option<usize>, Option<usize>) {
-    (slots.len(), slots.room(), slots.find(a), slots.find(b))
-}
-
-// The number of the inode in a slot; 0 where it is free.
-fn inode_at(slots: &Slots, at: usize) -> u16 {
-    match slots.get(at) {
-        Some(slot) => slot.inode,
-        None => 0,
+// Removes a name, and tells the inode that it led to.
+fn remove(slots: &mut Slots, name: &Name) -> Option<usize> {
+    match slots.remove(name) {
+        Some(slot) if slot.name == *name => Some(slot.inode.into()),
+        _ => None,
     }
 }
 
-// Three slots, of which the second is in use.
-fn three(alloc: Global, inode: u16, name: &Name) -> Result<Slots, AllocError> {
-    let used = Slot {
-        inode,
-        name: name.copy(),
-    };
-    Ok(Slots::of(vec![in alloc; None, Some(used), None]?))
+fn done(rt: &impl Abort, slots: &mut Slots, step: Step) -> Option<usize> {
+    match step {
+        Look => None,
+        Add(name, inode) => add(slots, inode, name_of(rt, name)),
+        Remove(name) => remove(slots, &name_of(rt, name)),
+        Lead(at, inode) => {
+            slots.lead(at, inode);
+            None
+        }
+        Reserve => {
+            let reserved: Result<_, _> = slots.reserve();
+            reserved.expect(rt, "no slot");
+            None
+        }
+        Truncate(len) => {
+            slots.truncate(len);
+            None
+        }
+        InodeAt(at) => slots.get(at).map(|slot| slot.inode.into()),
+    }
 }
+
+fn seen(slots: &Slots, names: &[Name; 2]) -> Seen {
+    let [first, second] = names;
+    (
+        slots.len(),
+        slots.room(),
+        slots.find(first),
+        slots.find(second),
+    )
+}
+
+// Does the steps, and looks for these names behind each.
+fn expect_steps(rt: &impl Abort, slots: &mut Slots, names: [u8; 2], rows: &[Row]) {
+    let names = [name_of(rt, names[0]), name_of(rt, names[1])];
+    for (at, (step, answer, wanted)) in rows.iter().enumerate() {
+        let came = done(rt, slots, *step);
+        assert_eq!(rt;
+            (came, seen(slots, &names)),
+            (*answer, *wanted),
+            "step {at}"
+        );
+    }
+}
+
+// Three slots, of which the second leads to inode 3 under the name `a`.
+fn three(rt: &impl Abort, alloc: Global) -> Slots {
+    let used = Slot {
+        inode: 3,
+        name: name_of(rt, b'a'),
+    };
+    let slots = vec![in alloc; None, Some(used), None].expect(rt, "no slots");
+    Slots::of(slots)
+}
+
+const COME_AND_GO: [Row; 8] = [
+    (Look, None, (3, 0, Some(1), None)),
+    (Remove(b'b'), None, (3, 0, Some(1), None)),
+    (Add(b'b', 4), Some(0), (3, 2, Some(1), Some(0))),
+    (Remove(b'a'), Some(3), (3, 1, None, Some(0))),
+    (InodeAt(0), Some(4), (3, 1, None, Some(0))),
+    (InodeAt(1), None, (3, 1, None, Some(0))),
+    (InodeAt(2), None, (3, 1, None, Some(0))),
+    (InodeAt(3), None, (3, 1, None, Some(0))),
+];
 
 #[test]
-fn names_come_and_go(rt: HostRuntime) -> Result<(), Fail> {
-    let a = Name::of(b"a").ok_or("no name")?;
-    let b = Name::of(b"b").ok_or("no name")?;
-    let mut slots = three(rt.alloc(), 3, &a)?;
-    let before = seen(&slots, &a, &b);
-    let none = slots.remove(&b).is_none();
-    let place = add(&mut slots, 4, &b);
-    let added = seen(&slots, &a, &b);
-    let gone = match slots.remove(&a) {
-        Some(slot) => slot.inode == 3 && slot.name == a,
-        None => false,
-    };
-    assert_eq!(rt; (none, place, gone), (true, Some(0), true));
-    assert_eq!(rt;
-        [before, added, seen(&slots, &a, &b)],
-        [
-            (3, 0, Some(1), None),
-            (3, 2, Some(1), Some(0)),
-            (3, 1, None, Some(0))
-        ]
-    );
-    for (at, inode) in [4, 0, 0, 0].into_iter().enumerate() {
-        assert_eq!(rt; inode_at(&slots, at), inode, "slot {at}");
-    }
-    Ok(())
+fn names_come_and_go(rt: HostRuntime) {
+    let mut slots = three(&rt, rt.alloc());
+    expect_steps(&rt, &mut slots, [b'a', b'b'], &COME_AND_GO);
 }
 
 // Seventy slots in use, under names of one byte, which lead to inodes of their numbers.
 fn seventy(rt: &impl Abort, alloc: Global) -> Slots {
     let mut slots = Slots::new(alloc);
     for byte in 1..=70 {
-        let name = Name::of(&[byte]).expect(rt, "no name");
-        let _ = add(&mut slots, byte.into(), &name);
+        let _ = add(&mut slots, byte.into(), name_of(rt, byte));
     }
     slots
 }
+
+// The names 3 and 70 go.
+const LONG_GO: [Row; 4] = [
+    (Look, None, (70, 70, Some(2), Some(69))),
+    (Remove(70), Some(70), (70, 69, Some(2), None)),
+    (Remove(70), None, (70, 69, Some(2), None)),
+    (Remove(3), Some(3), (70, 2, None, None)),
+];
+
+// Then the name 71 comes, and the place of another leads elsewhere.
+const LONG_COME: [Row; 4] = [
+    (Lead(41, 9), None, (70, 2, None, None)),
+    (Add(71, 71), Some(2), (70, 69, None, Some(2))),
+    (InodeAt(2), Some(71), (70, 69, None, Some(2))),
+    (InodeAt(41), Some(9), (70, 69, None, Some(2))),
+];
 
 // A directory of so many slots gets an index of its names with the first that goes.
 #[test]
 fn names_of_a_long_directory_come_and_go(rt: HostRuntime) {
     let mut slots = seventy(&rt, rt.alloc());
-    let first = Name::of(&[3]).expect(&rt, "no name");
-    let last = Name::of(&[70]).expect(&rt, "no name");
-    let new = Name::of(&[71]).expect(&rt, "no name");
-    let before = seen(&slots, &first, &last);
-    let gone = slots.remove(&last).is_some();
-    let none = slots.remove(&last).is_none();
-    let without = seen(&slots, &first, &last);
-    let also = slots.remove(&first).is_some();
-    slots.lead(41, 9);
-    let place = add(&mut slots, 71, &new);
-    assert_eq!(rt; (gone, none, also, place), (true, true, true, Some(2)));
-    assert_eq!(rt;
-        [before, without, seen(&slots, &first, &new)],
-        [
-            (70, 70, Some(2), Some(69)),
-            (70, 69, Some(2), None),
-            (70, 69, None, Some(2))
-        ]
-    );
-    assert_eq!(rt; (inode_at(&slots, 2), inode_at(&slots, 41)), (71, 9));
+    expect_steps(&rt, &mut slots, [3, 70], &LONG_GO);
+    expect_steps(&rt, &mut slots, [3, 71], &LONG_COME);
 }
 
+const RESERVED: [Row; 4] = [
+    (Reserve, None, (1, 0, None, None)),
+    (Truncate(0), None, (0, 0, None, None)),
+    (Reserve, None, (1, 0, None, None)),
+    (Add(b'a', 5), Some(0), (1, 1, Some(0), Some(0))),
+];
+
 #[test]
-fn a_reserved_slot_is_used_or_undone(rt: HostRuntime) -> Result<(), Fail> {
-    let a = Name::of(b"a").ok_or("no name")?;
+fn a_reserved_slot_is_used_or_undone(rt: HostRuntime) {
     let mut slots = Slots::new(rt.alloc());
-    slots.reserve()?;
-    let reserved = seen(&slots, &a, &a);
-    slots.truncate(0);
-    let undone = seen(&slots, &a, &a);
-    slots.reserve()?;
-    assert_eq!(rt; add(&mut slots, 5, &a), Some(0));
-    assert_eq!(rt;
-        [reserved, undone, seen(&slots, &a, &a)],
-        [
-            (1, 0, None, None),
-            (0, 0, None, None),
-            (1, 1, Some(0), Some(0))
-        ]
-    );
+    expect_steps(&rt, &mut slots, [b'a', b'a'], &RESERVED);
     names_are_found();
     room_is_the_least_free_place();
     added_names_are_found();
     removed_names_are_gone();
     led_names_stay();
-    Ok(())
 }
 
 // Of three slots the second is in use; a free one and one behind the last are led nowhere.
+const LED: [Row; 7] = [
+    (Lead(0, 7), None, (3, 0, Some(1), Some(1))),
+    (Lead(1, 7), None, (3, 0, Some(1), Some(1))),
+    (Lead(2, 7), None, (3, 0, Some(1), Some(1))),
+    (Lead(3, 7), None, (3, 0, Some(1), Some(1))),
+    (InodeAt(0), None, (3, 0, Some(1), Some(1))),
+    (InodeAt(1), Some(7), (3, 0, Some(1), Some(1))),
+    (InodeAt(2), None, (3, 0, Some(1), Some(1))),
+];
+
 #[test]
-fn a_slot_is_led_to_another_inode(rt: HostRuntime) -> Result<(), Fail> {
-    let a = Name::of(b"a").ok_or("no name")?;
-    let mut slots = three(rt.alloc(), 3, &a)?;
-    for at in [0, 1, 2, 3] {
-        slots.lead(at, 7);
-    }
-    let inodes = [
-        inode_at(&slots, 0),
-        inode_at(&slots, 1),
-        inode_at(&slots, 2),
-    ];
-    assert_eq!(rt;
-        (seen(&slots, &a, &a), inodes),
-        ((3, 0, Some(1), Some(1)), [0, 7, 0])
-    );
-    Ok(())
+fn a_slot_is_led_to_another_inode(rt: HostRuntime) {
+    let mut slots = three(&rt, rt.alloc());
+    expect_steps(&rt, &mut slots, [b'a', b'a'], &LED);
 }
 
 // A disk whose zone 3 has one slot in use, the second.
@@ -189,6 +225,14 @@ fn directory_inode(size: u32) -> Inode {
     }
 }
 
+fn slots_in_use(slots: &Slots) -> [bool; 3] {
+    [
+        slots.get(0).is_some(),
+        slots.get(1).is_some(),
+        slots.get(2).is_some(),
+    ]
+}
+
 // Expects three slots of a directory of so many bytes, of which the second is in use.
 fn expect_three(rt: &impl Abort, alloc: Global, width: u16, size: u32)
     requires { IsWidth width }
@@ -204,11 +248,8 @@ fn expect_three(rt: &impl Abort, alloc: Global, width: u16, size: u32)
     let disk = disk(rt, alloc, width);
     let inode = directory_inode(size);
     let slots = slots_in(alloc, &disk, &geometry, &inode).expect(rt, "no slots");
-    let used = [
-        slots.get(0).is_some(),
-        slots.get(1).is_some(),
-        slots.get(2).is_some(),
-    ];
+    drop(disk);
+    let used = slots_in_use(&slots);
     assert_eq!(rt; (slots.len(), used), (3, [false, true, false]), "{width}");
 }
 

@@ -4,8 +4,8 @@ ghost use Rattle.std.specs.Prelude.{◌≡◌, [], length, get_or};
 use byte_fields::u16_at_le;
 use minix_layout::{Inode, Zones};
 use minix_tables::inodes::{ZoneBlocks, encode_zone_block, map_is_by_levels, zone_of};
-use std::alloc::{AllocError, Global};
-use std::test::Fail;
+use std::alloc::Global;
+use std::process::Abort;
 
 // The first zones of a volume, each a row of 512 numbers. All numbers of the others are 0.
 #[derive(Drop)]
@@ -49,58 +49,59 @@ fn file(zones: [u16; 9]) -> Inode {
 
 // Two numbers in zone 20, which is indirect, and four behind zone 30, which is doubly indirect. Zone 0
 // has numbers too: it is no zone of a file.
-fn written(alloc: Global) -> Result<Rows, AllocError> {
+const WRITTEN: [(usize, usize, u16); 10] = [
+    (20, 0, 100),
+    (20, 511, 101),
+    (30, 0, 40),
+    (30, 511, 41),
+    (40, 0, 200),
+    (40, 511, 201),
+    (41, 0, 202),
+    (41, 511, 203),
+    (0, 0, 999),
+    (0, 511, 999),
+];
+
+fn written(rt: &impl Abort, alloc: Global) -> Rows {
     let mut blocks = Rows {
-        rows: vec![in alloc; [0; 512]; 64]?,
+        rows: vec![in alloc; [0; 512]; 64].expect(rt, "no rows"),
     };
-    let rows = [
-        (20, 0, 100),
-        (20, 511, 101),
-        (30, 0, 40),
-        (30, 511, 41),
-        (40, 0, 200),
-        (40, 511, 201),
-        (41, 0, 202),
-        (41, 511, 203),
-        (0, 0, 999),
-        (0, 511, 999),
-    ];
-    for (zone, at, value) in rows {
-        blocks.write(zone, at, value);
+    for (zone, at, value) in &WRITTEN {
+        blocks.write(*zone, *at, *value);
     }
-    Ok(blocks)
+    blocks
 }
 
+// A block, its zone, and its zone where there are no zones of numbers.
+const MAPPED: [(u32, u16, u16); 13] = [
+    (0, 10, 10),
+    (1, 0, 0),
+    (6, 16, 16),
+    (7, 100, 0),
+    (8, 0, 0),
+    (518, 101, 0),
+    (519, 200, 0),
+    (1030, 201, 0),
+    (1031, 0, 0),
+    (262_151, 202, 0),
+    (262_662, 203, 0),
+    (262_663, 0, 0),
+    (u32::MAX, 0, 0),
+];
+
 #[test]
-fn finds_zones_and_holes(rt: HostRuntime) -> Result<(), Fail> {
-    let blocks = written(rt.alloc())?;
+fn finds_zones_and_holes(rt: HostRuntime) {
+    let blocks = written(&rt, rt.alloc());
     let full = file([10, 0, 12, 13, 14, 15, 16, 20, 30]);
     let bare = file([10, 0, 12, 13, 14, 15, 16, 0, 0]);
-    // the block, its zone, and its zone where there are no zones of numbers
-    let rows = [
-        (0, 10, 10),
-        (1, 0, 0),
-        (6, 16, 16),
-        (7, 100, 0),
-        (8, 0, 0),
-        (518, 101, 0),
-        (519, 200, 0),
-        (1030, 201, 0),
-        (1031, 0, 0),
-        (262_151, 202, 0),
-        (262_662, 203, 0),
-        (262_663, 0, 0),
-        (u32::MAX, 0, 0),
-    ];
-    for (index, zone, direct) in rows {
+    for (index, zone, direct) in &MAPPED {
         let found = [
-            zone_of(&full, &blocks, index),
-            zone_of(&bare, &blocks, index),
+            zone_of(&full, &blocks, *index),
+            zone_of(&bare, &blocks, *index),
         ];
-        assert_eq!(rt; found, [zone, direct], "block {index}");
+        assert_eq!(rt; found, [*zone, *direct], "block {index}");
     }
     map_is_by_levels();
-    Ok(())
 }
 
 #[test]
@@ -112,6 +113,8 @@ fn numbers_stand_lowest_byte_first(rt: HostRuntime) {
     let bytes = block.as_slice();
     let front = [bytes[0], bytes[1], bytes[2], bytes[3], bytes[4]];
     let back = [bytes[1021], bytes[1022], bytes[1023]];
-    assert_eq!(rt; u16_at_le(bytes, 2), 0x0201);
-    assert_eq!(rt; (front, back), ([0, 0, 1, 2, 0], [0, 255, 255]));
+    assert_eq!(rt;
+        (u16_at_le(bytes, 2), front, back),
+        (0x0201, [0, 0, 1, 2, 0], [0, 255, 255])
+    );
 }

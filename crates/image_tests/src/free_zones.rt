@@ -1,6 +1,7 @@
 //! Tests of the map of zones.
 use minix_layout::{DEFAULT_WIDTH, Geometry};
-use minix_tables::zones::{NoSpace, ZoneMap, lowest_is_found, zones_are_counted, zones_last};
+use minix_tables::zones::{ZoneMap, lowest_is_found, zones_are_counted, zones_last};
+use std::process::Abort;
 
 // The zones of data are 5 to 9.
 const SMALL: Geometry = Geometry {
@@ -17,29 +18,60 @@ fn counts(map: &ZoneMap) -> [u32; 2] {
     [map.free_count(), map.quarantined()]
 }
 
+// What is done with a map.
+#[derive(Clone, Copy)]
+enum Step {
+    Take,
+    Held(u32),
+    Release(u32),
+}
+
+use Step::{Held, Release, Take};
+
+// A step, the zone or the number that it is answered, and the counts behind it.
+type Row = (Step, Option<u32>, [u32; 2]);
+
+fn done(map: &mut ZoneMap, step: Step) -> Option<u32> {
+    match step {
+        Take => map.take().ok().map(u32::from),
+        Held(transaction) => Some(map.held_to(transaction)),
+        Release(transaction) => {
+            map.release(transaction);
+            None
+        }
+    }
+}
+
+// The zones 8 and 9 are free, and zone 5 waits for transaction 4 and zone 7 for 9.
+const ROWS: [Row; 10] = [
+    (Held(3), Some(0), [2, 2]),
+    (Held(4), Some(1), [2, 2]),
+    (Held(9), Some(2), [2, 2]),
+    (Take, Some(8), [1, 2]),
+    (Take, Some(9), [0, 2]),
+    (Take, None, [0, 2]),
+    (Release(8), None, [0, 2]),
+    (Take, None, [0, 2]),
+    (Release(9), None, [1, 1]),
+    (Take, Some(7), [0, 1]),
+];
+
+fn expect_rows(rt: &impl Abort, map: &mut ZoneMap) {
+    for (at, (step, answer, wanted)) in ROWS.iter().enumerate() {
+        let came = done(map, *step);
+        assert_eq!(rt; (came, counts(map)), (*answer, *wanted), "step {at}");
+    }
+}
+
 #[test]
 fn takes_gives_and_releases(rt: HostRuntime) {
-    let Ok(mut map) = ZoneMap::make(rt.alloc(), &SMALL, &[5, 7, 7, 3, 10]) else {
-        panic!(rt; "no memory");
-    };
+    let mut map = ZoneMap::make(rt.alloc(), &SMALL, &[5, 7, 7, 3, 10]).expect(&rt, "no map");
     let made = counts(&map);
     let first = map.take();
     map.give(5, 4);
     map.give(7, 9);
-    let given = counts(&map);
-    let held = [map.held_to(3), map.held_to(4), map.held_to(9)];
-    let others = [map.take(), map.take(), map.take()];
-    map.release(8);
-    let early = map.take();
-    map.release(9);
-    let released = counts(&map);
-    assert_eq!(rt; [made, given, released], [[3, 0], [2, 2], [1, 1]]);
-    assert_eq!(rt; held, [0, 1, 2]);
-    let taken = [first, others[0], others[1], others[2], early, map.take()];
-    assert_eq!(rt;
-        taken,
-        [Ok(6), Ok(8), Ok(9), Err(NoSpace), Err(NoSpace), Ok(7)]
-    );
+    assert_eq!(rt; (made, first), ([3, 0], Ok(6)));
+    expect_rows(&rt, &mut map);
     lowest_is_found();
     zones_last();
     zones_are_counted();

@@ -1,14 +1,16 @@
 //! Superblocks, inodes, slots and maps, with bytes worked out by hand.
 #![tactic(auto, using(minix_layout::specs::Widths::of_14, minix_layout::specs::Widths::of_30))]
 
-ghost use Rattle.std.specs.Prelude.{◌≤◌, length};
+ghost use Rattle.std.specs.Prelude.{◌<◌, ◌≤◌, length};
+ghost use Rattle.minix_layout.specs.Widths.{IsWidth};
 
 use blk_base::Block;
 use minix_layout::{
-    BitPlace, DEFAULT_WIDTH, Geometry, Inode, LayoutFault, Name, Slot, TooSmall, Zones,
-    bits_are_read, inodes_are_read, maps_are_read, read_bit, read_inode, read_slot, read_super,
-    slots_are_read, super_is_read, write_bit, write_inode, write_slot, write_super,
+    DEFAULT_WIDTH, Geometry, Inode, LayoutFault, Name, Slot, TooSmall, Zones, bits_are_read,
+    inodes_are_read, maps_are_read, read_bit, read_inode, read_slot, read_super, slots_are_read,
+    super_is_read, write_bit, write_inode, write_slot, write_super,
 };
+use std::process::Abort;
 
 // A block whose first bytes are these, and the others 0.
 fn block(front: &[u8]) -> Block
@@ -26,27 +28,37 @@ const SUPER: [u8; 20] = [
     0x64, 0, 0xE8, 0x03, 1, 0, 1, 0, 8, 0, 0, 0, 0x00, 0x1C, 0x08, 0x10, 0x7F, 0x13, 1, 0,
 ];
 
-#[test]
-fn makes_and_writes_a_superblock(rt: HostRuntime) {
+// The superblock of 100 inodes and 1,000 zones, with names of up to this width, is this one.
+fn expect_super(rt: &impl Abort, width: u16, body: &Block)
+    requires { IsWidth width }
+{
     let made = Geometry {
         inodes: 100,
         zones: 1000,
         imap: 1,
         zmap: 1,
         first: 8,
-        width: DEFAULT_WIDTH,
+        width,
     };
-    assert_eq!(rt; Geometry::make(100, 1000, DEFAULT_WIDTH), Ok(made));
-    assert!(rt; write_super(&made) == block(&SUPER));
-    assert_eq!(rt; read_super(&block(&SUPER)), Ok(made));
-    let rows = [
-        (100, 8, Err(TooSmall)),
-        (100, 9, Ok(8)),
-        (u16::MAX, u16::MAX, Ok(2066)),
-    ];
-    for (inodes, zones, first) in rows {
-        let found = Geometry::make(inodes, zones, DEFAULT_WIDTH).map(|g| g.first);
-        assert_eq!(rt; found, first, "{inodes} {zones}");
+    let found = (Geometry::make(100, 1000, width), read_super(body));
+    assert_eq!(rt; found, (Ok(made), Ok(made)));
+    assert!(rt; write_super(&made) == *body);
+}
+
+// Numbers of inodes and zones, and the first zone of data.
+const SIZES: [(u16, u16, Result<u16, TooSmall>); 3] = [
+    (100, 8, Err(TooSmall)),
+    (100, 9, Ok(8)),
+    (u16::MAX, u16::MAX, Ok(2066)),
+];
+
+#[test]
+fn makes_and_writes_a_superblock(rt: HostRuntime) {
+    expect_super(&rt, DEFAULT_WIDTH, &block(&SUPER));
+    for (inodes, zones, first) in &SIZES {
+        assert!(rt; *inodes != 0);
+        let found = Geometry::make(*inodes, *zones, DEFAULT_WIDTH).map(|g| g.first);
+        assert_eq!(rt; found, *first, "{inodes} {zones}");
     }
     super_is_read();
     inodes_are_read();
@@ -55,92 +67,80 @@ fn makes_and_writes_a_superblock(rt: HostRuntime) {
     maps_are_read();
 }
 
+// Two bytes of the superblock, and the fault that they make.
+const BAD_SUPERS: [(&str, usize, [u8; 2], LayoutFault); 8] = [
+    ("version 2", 16, [0x68, 0x24], LayoutFault::BadMagic),
+    ("zones of two blocks", 10, [1, 0], LayoutFault::BadGeometry),
+    ("no inodes", 0, [0, 0], LayoutFault::BadGeometry),
+    ("no zone of data", 2, [8, 0], LayoutFault::BadGeometry),
+    (
+        "a zone of data in the tables",
+        8,
+        [7, 0],
+        LayoutFault::BadGeometry,
+    ),
+    (
+        "too few bits for the inodes",
+        4,
+        [0, 0],
+        LayoutFault::BadGeometry,
+    ),
+    (
+        "too few bits for the zones",
+        6,
+        [0, 0],
+        LayoutFault::BadGeometry,
+    ),
+    (
+        "sums above 16 bits",
+        4,
+        [0xFF, 0xFF],
+        LayoutFault::BadGeometry,
+    ),
+];
+
 #[test]
 fn refuses_superblocks(rt: HostRuntime) {
-    let rows: [(&str, usize, [u8; 2], LayoutFault); 8] = [
-        ("version 2", 16, [0x68, 0x24], LayoutFault::BadMagic),
-        ("zones of two blocks", 10, [1, 0], LayoutFault::BadGeometry),
-        ("no inodes", 0, [0, 0], LayoutFault::BadGeometry),
-        ("no zone of data", 2, [8, 0], LayoutFault::BadGeometry),
-        (
-            "a zone of data in the tables",
-            8,
-            [7, 0],
-            LayoutFault::BadGeometry,
-        ),
-        (
-            "too few bits for the inodes",
-            4,
-            [0, 0],
-            LayoutFault::BadGeometry,
-        ),
-        (
-            "too few bits for the zones",
-            6,
-            [0, 0],
-            LayoutFault::BadGeometry,
-        ),
-        (
-            "sums above 16 bits",
-            4,
-            [0xFF, 0xFF],
-            LayoutFault::BadGeometry,
-        ),
-    ];
-    for (what, at, bytes, fault) in rows {
-        assert!(rt; at < 1000);
+    for (what, at, bytes, fault) in &BAD_SUPERS {
+        assert!(rt; *at < 1000);
         let mut b = block(&SUPER);
-        b.set(at, bytes[0]);
-        b.set(at + 1, bytes[1]);
-        assert_eq!(rt; read_super(&b), Err(fault), "{what}");
+        b.set(*at, bytes[0]);
+        b.set(*at + 1, bytes[1]);
+        assert_eq!(rt; read_super(&b), Err(*fault), "{what}");
     }
 }
 
 // The magic number is the one difference.
 #[test]
 fn makes_and_writes_a_superblock_of_long_names(rt: HostRuntime) {
-    let made = Geometry {
-        inodes: 100,
-        zones: 1000,
-        imap: 1,
-        zmap: 1,
-        first: 8,
-        width: 30,
-    };
     let mut wide = block(&SUPER);
     wide.set(16, 0x8F);
-    assert_eq!(rt; Geometry::make(100, 1000, 30), Ok(made));
-    assert!(rt; write_super(&made) == wide);
-    assert_eq!(rt; read_super(&wide), Ok(made));
+    expect_super(&rt, 30, &wide);
     wide.set(0, 0);
     assert_eq!(rt; read_super(&wide), Err(LayoutFault::BadGeometry));
 }
 
 #[test]
 fn writes_the_maps(rt: HostRuntime) {
-    let Ok(g) = Geometry::make(8192, 16384, DEFAULT_WIDTH) else {
-        panic!(rt; "no volume");
-    };
-    let rows: [(BitPlace, u32, u16); 4] = [
-        (g.inode_bit(1), 2, 1),
-        (g.inode_bit(8192), 3, 0),
-        (g.zone_bit(263), 4, 1),
-        (g.zone_bit(8454), 5, 0),
-    ];
-    for (place, block, at) in rows {
-        assert_eq!(rt; (place.block, place.at), (block, at));
-    }
+    let g = Geometry::make(8192, 16384, DEFAULT_WIDTH).expect(&rt, "no volume");
+    let places = [
+        g.inode_bit(1),
+        g.inode_bit(8192),
+        g.zone_bit(263),
+        g.zone_bit(8454),
+    ]
+    .map(|place| (place.block, place.at));
+    assert_eq!(rt; places, [(2, 1), (3, 0), (4, 1), (5, 0)]);
     let mut b = Block::fill(0);
-    for at in [0, 1, 9, 8191] {
-        write_bit(&mut b, at, true);
-    }
+    write_bit(&mut b, 0, true);
+    write_bit(&mut b, 1, true);
+    write_bit(&mut b, 9, true);
+    write_bit(&mut b, 8191, true);
     write_bit(&mut b, 1, false);
     let bytes = b.as_slice();
-    assert_eq!(rt;
-        [bytes[0], bytes[1], bytes[2], bytes[1023]],
-        [1, 2, 0, 0x80]
-    );
-    assert_eq!(rt; [read_bit(&b, 9), read_bit(&b, 10)], [true, false]);
+    let written = [bytes[0], bytes[1], bytes[2], bytes[1023]];
+    let read = [read_bit(&b, 9), read_bit(&b, 10)];
+    assert_eq!(rt; (written, read), ([1, 2, 0, 0x80], [true, false]));
 }
 
 const INODE: [u8; 32] = [
@@ -148,9 +148,9 @@ const INODE: [u8; 32] = [
     0x12, 0, 0, 0, 0x14, 0, 0x15, 0, 0x16, 0, 0x34, 0x12, 0xFF, 0xFF,
 ];
 
-#[test]
-fn reads_and_writes_an_inode(rt: HostRuntime) {
-    let inode = Inode {
+// The inode of these bytes.
+fn inode() -> Inode {
+    Inode {
         mode: 0x81A4,
         uid: 0x0102,
         size: 0x8001_2345,
@@ -158,16 +158,19 @@ fn reads_and_writes_an_inode(rt: HostRuntime) {
         gid: 7,
         links: 2,
         zones: Zones::of([0x10, 0x11, 0x12, 0, 0x14, 0x15, 0x16, 0x1234, 0xFFFF]),
-    };
+    }
+}
+
+#[test]
+fn reads_and_writes_an_inode(rt: HostRuntime) {
     let mut b = Block::fill(0xAA);
-    write_inode(&mut b, 31, &inode);
+    write_inode(&mut b, 31, &inode());
     let (before, written) = b.as_slice().split_at(992);
     let others = before.iter().all(|byte| *byte == 0xAA);
     assert_eq!(rt; (others, written), (true, INODE.as_slice()));
-    for found in [read_inode(&b, 31), read_inode(&block(&INODE), 0)] {
-        assert_eq!(rt; found, inode);
-    }
-    assert_eq!(rt; read_inode(&b, 30).zones.zone(8), 0xAAAA);
+    let found = [read_inode(&b, 31), read_inode(&block(&INODE), 0)];
+    let last = read_inode(&b, 30).zones.zone(8);
+    assert_eq!(rt; (found, last), ([inode(), inode()], 0xAAAA));
 }
 
 // Two slots in use, a free one, an empty name, and a name with a `/`.
@@ -179,25 +182,27 @@ const SLOTS: [u8; 80] = [
     1, 0, b'a', b'/', 0, 0, 0, 0, 0, 0, 0, 0, 0, 0, 0, 0, //
 ];
 
+// What stands in each: an inode and a name, or none, or a fault.
+const READ: [(u8, Result<Option<(u16, &[u8])>, LayoutFault>); 5] = [
+    (0, Ok(Some((5, b"ab")))),
+    (1, Ok(Some((0x1234, b"\x80\xFFcdefghijklmn")))),
+    (2, Ok(None)),
+    (3, Err(LayoutFault::BadSlot)),
+    (4, Err(LayoutFault::BadSlot)),
+];
+
 #[test]
 fn reads_slots(rt: HostRuntime) {
     let b = block(&SLOTS);
-    let rows: [Result<Option<(u16, &[u8])>, LayoutFault>; 5] = [
-        Ok(Some((5, b"ab"))),
-        Ok(Some((0x1234, b"\x80\xFFcdefghijklmn"))),
-        Ok(None),
-        Err(LayoutFault::BadSlot),
-        Err(LayoutFault::BadSlot),
-    ];
-    for (at, wanted) in (0..5).zip(rows) {
-        assert!(rt; at < 5);
-        let read = read_slot(&b, at, DEFAULT_WIDTH);
+    for (at, wanted) in &READ {
+        assert!(rt; *at < 5);
+        let read = read_slot(&b, *at, DEFAULT_WIDTH);
         let found = match &read {
             Ok(Some(slot)) => Ok(Some((slot.inode, slot.name.as_slice()))),
             Ok(None) => Ok(None),
             Err(fault) => Err(*fault),
         };
-        assert_eq!(rt; found, wanted, "slot {at}");
+        assert_eq!(rt; found, *wanted, "slot {at}");
     }
 }
 
@@ -211,10 +216,12 @@ fn writes_slots(rt: HostRuntime) {
         write_slot(&mut b, 5, first.as_ref(), DEFAULT_WIDTH);
         write_slot(&mut b, 6, second.as_ref(), DEFAULT_WIDTH);
     }
-    assert_eq!(rt; &b.as_slice()[80..86], [5, 0, b'a', b'b', 0, 0].as_slice());
-    assert_eq!(rt; &b.as_slice()[96..112], &SLOTS[16..32]);
     write_slot(&mut b, 1, None, DEFAULT_WIDTH);
-    assert_eq!(rt; &b.as_slice()[16..32], [0; 16].as_slice());
+    let bytes = b.as_slice();
+    assert_eq!(rt;
+        (&bytes[80..86], &bytes[96..112], &bytes[16..32]),
+        (&[5, 0, b'a', b'b', 0, 0][..], &SLOTS[16..32], &[0; 16][..])
+    );
 }
 
 // Slots of 32 bytes with names of 1, 14, 15 and 30 bytes. The longest has no byte of 0 behind it.
@@ -263,20 +270,47 @@ fn is_slot(read: &Result<Option<Slot>, LayoutFault>, inode: u16, name: &[u8]) ->
     }
 }
 
+// These bytes stand at this place of a block that was filled with another.
+fn expect_written(rt: &impl Abort, b: &Block, at: u8, written: &[u8; 32])
+    requires { at < 32 }
+{
+    let (before, rest) = b.as_slice().split_at(32 * usize::from(at));
+    let (found, behind) = rest.split_at(32);
+    let others = before.iter().chain(behind).all(|byte| *byte == 0xAA);
+    assert_eq!(rt; (others, found), (true, written.as_slice()), "{at}");
+}
+
+// A slot is written as these bytes at its place, and nowhere else, and is read from there.
+fn expect_slot(rt: &impl Abort, at: u8, inode: u16, bytes: &[u8], written: &[u8; 32]) {
+    assert!(rt; at < 32);
+    let name = Name::of(bytes).expect(rt, "no name");
+    let mut b = Block::fill(0xAA);
+    write_slot(&mut b, at, Some(&Slot { inode, name }), 30);
+    expect_written(rt, &b, at, written);
+    assert!(rt; is_slot(&read_slot(&b, at, 30), inode, bytes), "{at}");
+}
+
 #[test]
 fn reads_and_writes_slots_of_long_names(rt: HostRuntime) {
-    for (inode, bytes, written) in WIDE_SLOTS {
-        let name = Name::of(bytes).expect(&rt, "no name");
-        let slot = Slot { inode, name };
-        for (at, first) in [(0, 0), (31, 992)] {
-            let mut b = Block::fill(0xAA);
-            write_slot(&mut b, at, Some(&slot), 30);
-            let (before, rest) = b.as_slice().split_at(first);
-            let (found, behind) = rest.split_at(32);
-            let others = before.iter().chain(behind).all(|byte| *byte == 0xAA);
-            assert_eq!(rt; (others, found), (true, written.as_slice()));
-            assert!(rt; is_slot(&read_slot(&b, at, 30), inode, bytes), "{at}");
-        }
+    for (inode, bytes, written) in &WIDE_SLOTS {
+        expect_slot(&rt, 0, *inode, bytes, written);
+        expect_slot(&rt, 31, *inode, bytes, written);
+    }
+}
+
+// Places of slots of long names, and whether one is in use there, or what is wrong.
+const USES: [(u8, Result<bool, LayoutFault>); 4] = [
+    (1, Ok(false)),
+    (30, Ok(false)),
+    (2, Err(LayoutFault::BadSlot)),
+    (31, Err(LayoutFault::BadSlot)),
+];
+
+fn expect_uses(rt: &impl Abort, b: &Block) {
+    for (at, used) in &USES {
+        assert!(rt; *at < 32);
+        let found = read_slot(b, *at, 30).map(|slot| slot.is_some());
+        assert_eq!(rt; found, *used, "{at}");
     }
 }
 
@@ -284,42 +318,35 @@ fn reads_and_writes_slots_of_long_names(rt: HostRuntime) {
 #[test]
 fn tells_slots_of_long_names_that_are_free_or_bad(rt: HostRuntime) {
     let mut b = Block::fill(b'x');
-    for at in [32, 33, 960, 961, 66] {
-        b.set(at, 0);
-    }
+    b.set(32, 0);
+    b.set(33, 0);
+    b.set(960, 0);
+    b.set(961, 0);
+    b.set(66, 0);
     b.set(1023, b'/');
-    for at in [1, 30] {
-        assert!(rt;
-            read_slot(&b, at, 30).is_ok_and(|slot| slot.is_none()),
-            "{at}"
-        );
-    }
-    for at in [2, 31] {
-        assert!(rt;
-            read_slot(&b, at, 30).is_err_and(|fault| fault == LayoutFault::BadSlot),
-            "{at}"
-        );
-    }
+    expect_uses(&rt, &b);
     assert!(rt; is_slot(&read_slot(&b, 0, 30), 0x7878, &[b'x'; 30]));
     write_slot(&mut b, 3, None, 30);
-    let (before, rest) = b.as_slice().split_at(96);
-    let (freed, behind) = rest.split_at(32);
-    assert!(rt; freed.iter().all(|byte| *byte == 0));
-    assert_eq!(rt; (before.last(), behind.first()), (Some(&b'x'), Some(&b'x')));
+    let bytes = b.as_slice();
+    assert_eq!(rt;
+        (bytes[95], &bytes[96..128], bytes[128]),
+        (b'x', &[0; 32][..], b'x')
+    );
 }
+
+const NAMES: [(&[u8], bool); 7] = [
+    (b"", false),
+    (b"a", true),
+    (b"a\0b", false),
+    (b"fourteen bytes", true),
+    (b"fifteen bytes .", true),
+    (b"a name of thirty bytes is this", true),
+    (b"a name of thirty-one bytes is .", false),
+];
 
 #[test]
 fn takes_names(rt: HostRuntime) {
-    let rows: [(&[u8], bool); 7] = [
-        (b"", false),
-        (b"a", true),
-        (b"a\0b", false),
-        (b"fourteen bytes", true),
-        (b"fifteen bytes .", true),
-        (b"a name of thirty bytes is this", true),
-        (b"a name of thirty-one bytes is .", false),
-    ];
-    for (bytes, taken) in rows {
-        assert_eq!(rt; Name::of(bytes).is_some(), taken);
+    for (bytes, taken) in &NAMES {
+        assert_eq!(rt; Name::of(bytes).is_some(), *taken, "{bytes:?}");
     }
 }

@@ -1,8 +1,8 @@
 //! The text of a tree, paths, copies of names, and the laws of calls.
-use blk_base::{Block, NoMemory};
+use blk_base::Block;
 use minix_layout::{DEFAULT_WIDTH, Name};
 use std::alloc::Global;
-use std::test::Fail;
+use std::process::Abort;
 use tree_model::{
     Directory, File, FileBlocks, Names, Node, Room, Tree, a_move_keeps_its_node,
     answers_tell_what_stands, asking_changes_nothing, calls_keep_files_sound,
@@ -14,37 +14,43 @@ use tree_model::{
     truncates_give_the_size, writes_fill_their_range, written_bytes_are_read_back,
 };
 
-fn name(bytes: &[u8]) -> Result<Name, Fail> {
-    Ok(Name::of(bytes).ok_or("no name")?)
+fn name(rt: &impl Abort, bytes: &[u8]) -> Name {
+    Name::of(bytes).expect(rt, "no name")
 }
 
-fn directory(alloc: Global, names: &[(&[u8], u64)]) -> Result<Node, Fail> {
-    let mut map = Names::new(alloc);
-    for (bytes, birth) in names {
-        map.put(name(bytes)?, *birth)?;
+// These names, in this order, with the births that they lead to.
+fn names_of(rt: &impl Abort, alloc: Global, rows: &[(&[u8], u64)]) -> Names {
+    let mut names = Names::new(alloc);
+    for (bytes, birth) in rows {
+        let placed: Result<_, _> = names.put(name(rt, bytes), *birth);
+        placed.expect(rt, "no place for a name");
     }
-    Ok(Node::Directory(Directory {
+    names
+}
+
+fn directory(rt: &impl Abort, alloc: Global, names: &[(&[u8], u64)]) -> Node {
+    Node::Directory(Directory {
         parent: 0,
         width: DEFAULT_WIDTH,
         slots: 2,
-        names: map,
-    }))
+        names: names_of(rt, alloc, names),
+    })
 }
 
 // Blocks 0, 2, 3 and 4 are mapped, and the size ends in block 3.
-fn file(alloc: Global) -> Result<Node, NoMemory> {
-    let mut last_one = Block::fill(0);
-    last_one.set(1023, 1);
+fn file(rt: &impl Abort, alloc: Global) -> Node {
     let mut blocks = FileBlocks::new(alloc);
-    blocks.put(4, Block::fill(9))?;
-    blocks.put(3, Block::fill(7))?;
-    blocks.put(2, last_one)?;
-    blocks.put(0, Block::fill(b'a'))?;
-    Ok(Node::File(File {
+    for (at, byte, last) in [(4, 9, 9), (3, 7, 7), (2, 0, 1), (0, b'a', b'a')] {
+        let mut body = Block::fill(byte);
+        body.set(1023, last);
+        let placed: Result<_, _> = blocks.put(at, body);
+        placed.expect(rt, "no place for a block");
+    }
+    Node::File(File {
         size: 3075,
         links: 2,
         blocks,
-    }))
+    })
 }
 
 const TEXT: &str = "dir /
@@ -58,93 +64,108 @@ dir /d/e
 other /x\\x20\\x5c\\xff mode 020644
 ";
 
-// The tree of that text.
-fn tree(alloc: Global) -> Result<Tree, Fail> {
-    let mut tree = Tree::new(alloc);
-    tree.put(4, Node::Other(0o020644))?;
-    tree.put(3, directory(alloc, &[])?)?;
-    tree.put(2, file(alloc)?)?;
-    tree.put(1, directory(alloc, &[(b"e", 3), (b"a", 2)])?)?;
-    tree.put(
+// What a node of that tree is.
+#[derive(Clone, Copy)]
+enum Kind {
+    Other(u16),
+    File,
+    // A directory of these names, with the births that they lead to.
+    Directory(&'static [(&'static [u8], u64)]),
+}
+
+// The nodes of the tree of that text, by their births.
+const NODES: [(u64, Kind); 5] = [
+    (4, Kind::Other(0o020644)),
+    (3, Kind::Directory(&[])),
+    (2, Kind::File),
+    (1, Kind::Directory(&[(b"e", 3), (b"a", 2)])),
+    (
         0,
-        directory(alloc, &[(b"x \\\xFF", 4), (b"d", 1), (b"a", 2)])?,
-    )?;
-    Ok(tree)
+        Kind::Directory(&[(b"x \\\xFF", 4), (b"d", 1), (b"a", 2)]),
+    ),
+];
+
+fn node(rt: &impl Abort, alloc: Global, kind: Kind) -> Node {
+    match kind {
+        Kind::Other(mode) => Node::Other(mode),
+        Kind::File => file(rt, alloc),
+        Kind::Directory(names) => directory(rt, alloc, names),
+    }
+}
+
+fn tree(rt: &impl Abort, alloc: Global) -> Tree {
+    let mut tree = Tree::new(alloc);
+    for (birth, kind) in &NODES {
+        let placed: Result<_, _> = tree.put(*birth, node(rt, alloc, *kind));
+        placed.expect(rt, "no place for a node");
+    }
+    tree
 }
 
 #[test]
-fn shows_a_tree(rt: HostRuntime) -> Result<(), Fail> {
+fn shows_a_tree(rt: HostRuntime) {
     let mut out = String::new(rt.alloc());
-    put_tree(rt.alloc(), &mut out, tree(rt.alloc())?)?;
+    put_tree(rt.alloc(), &mut out, tree(&rt, rt.alloc())).expect(&rt, "no text");
     assert_eq!(rt; out.as_str(), TEXT);
     texts_list_paths();
-    Ok(())
 }
 
-fn shown(alloc: Global, text: &[u8]) -> Result<String, Fail> {
-    let path = read_path(alloc, text)?;
-    Ok(format!(in alloc; "{path:?}")?)
+fn shown(rt: &impl Abort, alloc: Global, text: &[u8]) -> String {
+    let path = read_path(alloc, text).expect(rt, "no memory for a path");
+    format!(in alloc; "{path:?}").expect(rt, "no text")
 }
 
 // Whether a text is a path whose last name is this one.
-fn ends_in(alloc: Global, text: &[u8], end: &[u8]) -> Result<bool, NoMemory> {
-    let Some(path) = read_path(alloc, text)? else {
-        return Ok(false);
-    };
-    match path.as_slice().last() {
-        Some(name) => Ok(name.as_slice() == end),
-        None => Ok(false),
+fn ends_in(rt: &impl Abort, alloc: Global, text: &[u8], end: &[u8]) -> bool {
+    match read_path(alloc, text).expect(rt, "no memory for a path") {
+        Some(path) => path
+            .as_slice()
+            .last()
+            .is_some_and(|name| name.as_slice() == end),
+        None => false,
     }
 }
 
+// Texts, and the paths that they are.
+const PATHS: [(&[u8], &str); 10] = [
+    (b"/", "Some(Path { names: [] })"),
+    (b"/a", "Some(Path { names: [[97]] })"),
+    (b"/a/b", "Some(Path { names: [[97], [98]] })"),
+    (
+        b"/Z_0/..-",
+        "Some(Path { names: [[90, 95, 48], [46, 46, 45]] })",
+    ),
+    (b"", "None"),
+    (b"a", "None"),
+    (b"/a/", "None"),
+    (b"//a", "None"),
+    (b"/.", "None"),
+    (b"/a b", "None"),
+];
+
 #[test]
-fn reads_paths(rt: HostRuntime) -> Result<(), Fail> {
-    let rows: [(&[u8], &str); 10] = [
-        (b"/", "Some(Path { names: [] })"),
-        (b"/a", "Some(Path { names: [[97]] })"),
-        (b"/a/b", "Some(Path { names: [[97], [98]] })"),
-        (
-            b"/Z_0/..-",
-            "Some(Path { names: [[90, 95, 48], [46, 46, 45]] })",
-        ),
-        (b"", "None"),
-        (b"a", "None"),
-        (b"/a/", "None"),
-        (b"//a", "None"),
-        (b"/.", "None"),
-        (b"/a b", "None"),
-    ];
-    for (text, path) in rows {
-        let read = shown(rt.alloc(), text)?;
-        assert_eq!(rt; read.as_str(), path, "{text:?}");
+fn reads_paths(rt: HostRuntime) {
+    for (text, path) in &PATHS {
+        let read = shown(&rt, rt.alloc(), text);
+        assert_eq!(rt; read.as_str(), *path, "{text:?}");
     }
-    assert!(rt; ends_in(rt.alloc(), b"/a/bc", b"bc")?);
+    assert!(rt; ends_in(&rt, rt.alloc(), b"/a/bc", b"bc"));
     assert!(rt; is_dot(b".") && is_dot(b"..") && !is_dot(b"..."));
     paths_are_spelled();
-    Ok(())
 }
 
 #[test]
-fn copies_names(rt: HostRuntime) -> Result<(), Fail> {
-    let a = name(b"a")?;
-    let b = name(b"b")?;
-    let c = name(b"c")?;
-    let mut names = Names::new(rt.alloc());
-    names.put(b.copy(), 7)?;
-    names.put(a.copy(), 5)?;
-    names.put(b.copy(), 8)?;
-    let copy = names.copy(rt.alloc())?;
-    assert_eq!(rt;
-        [copy.get(&a), copy.get(&b), copy.get(&c)],
-        [Some(5), Some(8), None]
-    );
+fn copies_names(rt: HostRuntime) {
+    let names = names_of(&rt, rt.alloc(), &[(b"b", 7), (b"a", 5), (b"b", 8)]);
+    let copy = names.copy(rt.alloc()).expect(&rt, "no copy");
+    let found = [b"a", b"b", b"c"].map(|bytes| copy.get(&name(&rt, bytes)));
     let blocks = FileBlocks::new(rt.alloc());
-    assert_eq!(rt; [copy.as_map().len(), blocks.as_map().len()], [2, 0]);
-    Ok(())
+    let lengths = [copy.as_map().len(), blocks.as_map().len()];
+    assert_eq!(rt; (found, lengths), ([Some(5), Some(8), None], [2, 0]));
 }
 
 #[test]
-fn laws_do_nothing(rt: HostRuntime) -> Result<(), Fail> {
+fn laws_do_nothing(rt: HostRuntime) {
     same_metadata_chains();
     nodes_have_paths();
     examples_of_calls();
@@ -173,5 +194,4 @@ fn laws_do_nothing(rt: HostRuntime) -> Result<(), Fail> {
         capacity: 59,
     };
     assert_eq!(rt; room.capacity, 59);
-    Ok(())
 }
