@@ -3,7 +3,7 @@
 
 ghost use Rattle.minix_layout.specs.Widths.{IsWidth};
 
-use blk_base::{Block, Image, NoMemory};
+use blk_base::{Block, Image};
 use device_epochs::{DeviceSetup, EpochDevice};
 use minix_layout::{
     DEFAULT_WIDTH, Geometry, Inode, Name, Slot, Zones, slots_a_block, write_inode, write_slot,
@@ -77,20 +77,22 @@ fn put_number(blocks: &mut [Block], zone: usize, at: usize, number: u8) {
     }
 }
 
-fn empty(alloc: Global, blocks: usize) -> Result<Vec<Block>, NoMemory> {
+fn empty(rt: &impl Abort, alloc: Global, blocks: usize) -> Vec<Block> {
     let mut list = Vec::new(alloc);
     for _ in 0..blocks {
-        list.push(Block::fill(0))?;
+        let pushed: Result<_, _> = list.push(Block::fill(0));
+        pushed.expect(rt, "no block");
     }
-    Ok(list)
+    list
 }
 
-fn bytes_of(alloc: Global, blocks: &[Block]) -> Result<Vec<u8>, NoMemory> {
+fn bytes_of(rt: &impl Abort, alloc: Global, blocks: &[Block]) -> Vec<u8> {
     let mut bytes = Vec::new(alloc);
     for block in blocks {
-        bytes.extend_from_slice(block.as_slice())?;
+        let added: Result<_, _> = bytes.extend_from_slice(block.as_slice());
+        added.expect(rt, "no bytes");
     }
-    Ok(bytes)
+    bytes
 }
 
 // 64 inodes in blocks 4 and 5, and zones 6 to 39.
@@ -152,7 +154,7 @@ const NUMBERS: [(usize, usize, u8); 7] = [
 
 // An image of 40 blocks with all these.
 fn sample(rt: &impl Abort, alloc: Global) -> Vec<Block> {
-    let mut blocks = empty(alloc, 40).expect(rt, "no blocks");
+    let mut blocks = empty(rt, alloc, 40);
     put_super(&mut blocks, &GEOMETRY);
     for (number, mode, size, links, zones) in &INODES {
         let inode = inode(*mode, *size, *links, *zones);
@@ -189,7 +191,7 @@ other /zz mode 020666
 
 // The image of these blocks, with numbers of two bytes written at places in it.
 fn damaged(rt: &impl Abort, alloc: Global, blocks: &[Block], patches: &[(usize, u16)]) -> Vec<u8> {
-    let mut bytes = bytes_of(alloc, blocks).expect(rt, "no bytes");
+    let mut bytes = bytes_of(rt, alloc, blocks);
     for (at, number) in patches {
         if let Some(low) = bytes.get_mut(*at) {
             *low = (*number % 256) as u8;
@@ -216,7 +218,9 @@ fn mounted(alloc: Global, bytes: &[u8]) -> Result<Volume, MountFault> {
     let Ok(mut device) = EpochDevice::make(alloc, image, setup) else {
         return Err(MountFault::NoMemory);
     };
-    mount(alloc, &mut device).map(|mounted| mounted.volume)
+    let mounted = mount(alloc, &mut device).map(|mounted| mounted.volume);
+    drop(device);
+    mounted
 }
 
 // The text of the tree of the image of these blocks with these numbers in it.
@@ -271,14 +275,25 @@ fn shows_a_file_in_the_last_zone(rt: HostRuntime) {
     }
 }
 
-#[test]
-fn knows_which_zones_are_used(rt: HostRuntime) {
-    let bytes = damaged(&rt, rt.alloc(), sample(&rt, rt.alloc()).as_slice(), &[]);
-    let volume = mounted(rt.alloc(), bytes.as_slice()).expect(&rt, "not mounted");
+// The image of the sample.
+fn sample_bytes(rt: &impl Abort, alloc: Global) -> Vec<u8> {
+    let blocks = sample(rt, alloc);
+    damaged(rt, alloc, blocks.as_slice(), &[])
+}
+
+fn expect_used_zones(rt: &impl Abort, volume: &Volume) {
     for zone in 0..50 {
         assert_eq!(rt; volume.uses_zone(zone), zone >= 6 && zone <= 20, "{zone}");
     }
     assert_eq!(rt; volume.geometry(), &GEOMETRY);
+}
+
+#[test]
+fn knows_which_zones_are_used(rt: HostRuntime) {
+    let bytes = sample_bytes(&rt, rt.alloc());
+    let volume = mounted(rt.alloc(), bytes.as_slice()).expect(&rt, "not mounted");
+    expect_used_zones(&rt, &volume);
+    drop(volume);
     images_have_one_tree();
     image_metadata_gives_trees();
     image_faults_are_first_defects();
@@ -335,7 +350,7 @@ const WIDE_NAMES: [(usize, u8, u16, &[u8]); 4] = [
 ];
 
 fn wide_sample(rt: &impl Abort, alloc: Global) -> Vec<Block> {
-    let mut blocks = empty(alloc, 40).expect(rt, "no blocks");
+    let mut blocks = empty(rt, alloc, 40);
     put_super(&mut blocks, &WIDE);
     for (number, mode, size, links, zones) in &WIDE_INODES {
         let inode = inode(*mode, *size, *links, *zones);
@@ -400,7 +415,7 @@ const CUT_OFF: [(usize, u32); 7] = [
 
 #[test]
 fn refuses_images_that_are_cut_off(rt: HostRuntime) {
-    let bytes = damaged(&rt, rt.alloc(), sample(&rt, rt.alloc()).as_slice(), &[]);
+    let bytes = sample_bytes(&rt, rt.alloc());
     for (len, block) in &CUT_OFF {
         let front = bytes.get(..*len).expect(&rt, "short");
         let refused = is_refused(rt.alloc(), front, ImageFault::BadGeometry, *block);
@@ -426,20 +441,21 @@ fn with_journal(rt: &impl Abort, alloc: Global) -> Vec<Block> {
     blocks
 }
 
+// The type of the first block, the incompatible features, and what is told.
+const JOURNAL_ROWS: [(u16, u16, ImageFault); 5] = [
+    (3, 0, ImageFault::BadKind),
+    (4, 0, ImageFault::BadCount),
+    (4, 3, ImageFault::BadCount),
+    (4, 4, ImageFault::Feature(4)),
+    (4, 31, ImageFault::Feature(28)),
+];
+
 #[test]
 fn refuses_a_damaged_journal(rt: HostRuntime) {
     let blocks = with_journal(&rt, rt.alloc());
-    // The type of the first block, the incompatible features, and what is told.
-    let rows = [
-        (3, 0, ImageFault::BadKind),
-        (4, 0, ImageFault::BadCount),
-        (4, 3, ImageFault::BadCount),
-        (4, 4, ImageFault::Feature(4)),
-        (4, 31, ImageFault::Feature(28)),
-    ];
-    for (kind, features, fault) in rows {
-        let patches = journal_patches(kind, features);
-        expect_refused(&rt, rt.alloc(), blocks.as_slice(), &patches, fault, 40);
+    for (kind, features, fault) in &JOURNAL_ROWS {
+        let patches = journal_patches(*kind, *features);
+        expect_refused(&rt, rt.alloc(), blocks.as_slice(), &patches, *fault, 40);
     }
     // Another block of a journal is none's begin.
     let text = shown(&rt, rt.alloc(), blocks.as_slice(), &journal_patches(2, 0));

@@ -23,7 +23,9 @@ pub(crate) fn block_of(front: &[u8]) -> Block {
 
 // The block, by its name here, is read as this in a journal with narrow tags.
 fn expect_read(rt: &impl Abort, alloc: Global, name: &str, block: &Block, wanted: &str) {
-    let text = format!(in alloc; "{:?}", read_block(alloc, block, false)).expect(rt, "no text");
+    let read = read_block(alloc, block, false);
+    let text = format!(in alloc; "{read:?}").expect(rt, "no text");
+    drop(read);
     assert_eq!(rt; text.as_str(), wanted, "{name}");
 }
 

@@ -1,6 +1,8 @@
 //! Images that are made, and mounted with what stands in their journals.
 #![tactic(auto, using(minix_layout::specs::Widths::of_14, minix_layout::specs::Widths::of_30))]
 
+ghost use Rattle.minix_layout.specs.Widths.{IsWidth};
+
 use crate::recovery::put;
 use blk_base::{Block, Image};
 use device_epochs::{DeviceSetup, EpochDevice};
@@ -72,64 +74,85 @@ pub(crate) fn is_block(block: &Block, front: &[u8], rest: u8) -> bool {
     true
 }
 
-#[test]
-fn makes_each_block(rt: HostRuntime) {
-    let image = make_volume(rt.alloc(), 32, 64, 128, DEFAULT_WIDTH, false).expect(&rt, "not made");
+// The image of 32 inodes, 64 zones and a journal of 128 blocks.
+fn new_image(rt: &impl Abort, alloc: Global, width: u16, wide: bool) -> Image
+    requires { IsWidth width }
+{
+    make_volume(alloc, 32, 64, 128, width, wide).expect(rt, "not made")
+}
+
+// Each block of the image is as one of the tables above has it.
+fn expect_blocks(rt: &impl Abort, image: &Image, long_names: bool) {
     assert_eq!(rt; image.len(), 192);
     for at in 0..192 {
-        let (front, rest) = made(at);
-        if at < image.len() {
-            assert!(rt; is_block(image.block(at), front, rest), "{at}");
-        }
+        let (front, rest) = if long_names {
+            made_with_long_names(at)
+        } else {
+            made(at)
+        };
+        let same = at < image.len() && is_block(image.block(at), front, rest);
+        assert!(rt; same, "{at}");
     }
+}
+
+#[test]
+fn makes_each_block(rt: HostRuntime) {
+    let image = new_image(&rt, rt.alloc(), DEFAULT_WIDTH, false);
+    expect_blocks(&rt, &image, false);
     made_images_are_plain();
     made_maps_mark_the_root();
 }
 
 #[test]
 fn makes_each_block_of_a_volume_of_long_names(rt: HostRuntime) {
-    let image = make_volume(rt.alloc(), 32, 64, 128, 30, false).expect(&rt, "not made");
-    assert_eq!(rt; image.len(), 192);
-    for at in 0..192 {
-        let (front, rest) = made_with_long_names(at);
-        if at < image.len() {
-            assert!(rt; is_block(image.block(at), front, rest), "{at}");
-        }
+    let image = new_image(&rt, rt.alloc(), 30, false);
+    expect_blocks(&rt, &image, true);
+}
+
+// The length of a new image, and the last byte of the features, which stand at 0x28 of the journal's superblock.
+fn length_and_features(rt: &impl Abort, alloc: Global, wide: bool) -> (u32, Option<u8>) {
+    let image = new_image(rt, alloc, DEFAULT_WIDTH, wide);
+    let features = if image.len() > 64 {
+        image.block(64).as_slice().get(0x2B).copied()
+    } else {
+        None
+    };
+    (image.len(), features)
+}
+
+// 1 is for revoke blocks, and 2 for wide tags.
+#[test]
+fn a_journal_says_its_kind(rt: HostRuntime) {
+    for (wide, features) in [(false, 1), (true, 3)] {
+        let found = length_and_features(&rt, rt.alloc(), wide);
+        assert_eq!(rt; found, (192, Some(features)), "{wide}");
     }
 }
 
-// The features stand at 0x28 of the journal's superblock: 1 for revoke blocks, and 2 for wide tags.
-#[test]
-fn a_journal_says_its_kind(rt: HostRuntime) {
-    for (wide, features) in [(false, 1u8), (true, 3u8)] {
-        let image = make_volume(rt.alloc(), 32, 64, 128, DEFAULT_WIDTH, wide).expect(
-            &rt, "not made",
-        );
-        assert_eq!(rt; image.len(), 192);
-        if image.len() > 64 {
-            let last = image.block(64).as_slice().get(0x2B).copied();
-            assert_eq!(rt; last, Some(features), "{wide}");
-        }
-    }
+// Numbers of zones and of blocks of a journal, and what is told of them.
+const BAD_SIZES: [(u16, u32, MakeFault); 4] = [
+    (5, 128, MakeFault::TooSmall),
+    (5, 127, MakeFault::TooSmall),
+    (6, 127, MakeFault::JournalSize),
+    (6, 16_385, MakeFault::JournalSize),
+];
+
+// What an image of 32 inodes is refused with.
+fn make_fault(alloc: Global, zones: u16, journal: u32) -> Option<MakeFault> {
+    make_volume(alloc, 32, zones, journal, DEFAULT_WIDTH, false).err()
 }
 
 #[test]
 fn refuses_sizes(rt: HostRuntime) {
-    let rows = [
-        (32, 5, 128, MakeFault::TooSmall),
-        (32, 5, 127, MakeFault::TooSmall),
-        (32, 6, 127, MakeFault::JournalSize),
-        (32, 6, 16_385, MakeFault::JournalSize),
-    ];
-    for (inodes, zones, journal, fault) in rows {
-        let made = make_volume(rt.alloc(), inodes, zones, journal, DEFAULT_WIDTH, false);
-        assert!(rt; made.is_err_and(|f| f == fault), "{zones} {journal}");
+    for (zones, journal, fault) in &BAD_SIZES {
+        let told = make_fault(rt.alloc(), *zones, *journal);
+        assert!(rt; told == Some(*fault), "{zones} {journal}");
     }
 }
 
 // A made image whose log has an empty transaction of sequence 4, and one of sequence 5 without its commit block.
 fn skipping(rt: &impl Abort, alloc: Global) -> Image {
-    let mut image = make_volume(alloc, 32, 64, 128, DEFAULT_WIDTH, false).expect(rt, "not made");
+    let mut image = new_image(rt, alloc, DEFAULT_WIDTH, false);
     let superblock = JournalSuper {
         maxlen: 128,
         first: 1,
@@ -163,25 +186,23 @@ fn refused(
         cut_at: None,
     };
     let mut device = EpochDevice::make(alloc, image, setup).expect(rt, "no device");
-    mount(alloc, &mut device).err()
+    let fault = mount(alloc, &mut device).err();
+    drop(device);
+    fault
 }
+
+const FAILED: [(u64, Option<MountFault>); 3] = [
+    (1, Some(MountFault::DeviceFailed(0))),
+    (2, Some(MountFault::DeviceFailed(1))),
+    (3, None),
+];
 
 #[test]
 fn tells_what_the_device_failed(rt: HostRuntime) {
-    let rows = [
-        (1, Some(MountFault::DeviceFailed(0))),
-        (2, Some(MountFault::DeviceFailed(1))),
-        (3, None),
-    ];
-    for (fail_at, fault) in rows {
-        let told = refused(
-            &rt,
-            rt.alloc(),
-            skipping(&rt, rt.alloc()),
-            Some(fail_at),
-            None,
-        );
-        assert_eq!(rt; told, fault, "{fail_at}");
+    for (fail_at, fault) in &FAILED {
+        let image = skipping(&rt, rt.alloc());
+        let told = refused(&rt, rt.alloc(), image, Some(*fail_at), None);
+        assert_eq!(rt; told, *fault, "{fail_at}");
     }
 }
 
@@ -191,7 +212,7 @@ fn expect_reads(rt: &impl Abort, alloc: Global, used: bool, reads: u64) {
         let image = if used {
             skipping(rt, alloc)
         } else {
-            make_volume(alloc, 32, 64, 128, DEFAULT_WIDTH, false).expect(rt, "not made")
+            new_image(rt, alloc, DEFAULT_WIDTH, false)
         };
         let fault = (bad <= reads).then_some(MountFault::ReadFault);
         let told = refused(rt, alloc, image, None, Some(bad));

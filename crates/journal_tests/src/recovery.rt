@@ -181,7 +181,9 @@ fn recover_failing(
 ) -> Result<Recovered, RecoverFault> {
     assert!(rt; image.len() > BASE);
     let mut dev = device(rt, alloc, image, fail_at, bad_read);
-    recover(alloc, &mut dev, BASE, &[], false)
+    let result = recover(alloc, &mut dev, BASE, &[], false);
+    drop(dev);
+    result
 }
 
 fn body(image: &Image, at: u32) -> Option<&Block> {
@@ -271,6 +273,14 @@ const CANCELLED: [LogPart; 5] = [
     LogPart::Commit(5),
 ];
 
+// The superblock of that log.
+const ROUND: JournalSuper = JournalSuper {
+    maxlen: 5,
+    start: 3,
+    sequence: u32::MAX,
+    ..FOUR
+};
+
 fn skipping(rt: &impl Abort, alloc: Global) -> Image {
     image_of(rt, alloc, &FOUR, &SKIPPING)
 }
@@ -283,13 +293,7 @@ fn revoked(rt: &impl Abort, alloc: Global, s: &JournalSuper) -> Image {
 }
 
 fn wrapped(rt: &impl Abort, alloc: Global) -> Image {
-    let round = JournalSuper {
-        maxlen: 5,
-        start: 3,
-        sequence: u32::MAX,
-        ..FOUR
-    };
-    image_of(rt, alloc, &round, &WRAPPED)
+    image_of(rt, alloc, &ROUND, &WRAPPED)
 }
 
 fn full(rt: &impl Abort, alloc: Global, s: &JournalSuper) -> Image {
@@ -303,6 +307,14 @@ fn boxed_blocks_have_their_bytes(rt: HostRuntime) {
     assert!(rt; boxed.into_block() == magic_body());
 }
 
+// Blocks have these bytes in front, and one byte behind.
+fn expect_bodies(rt: &impl Abort, image: &Image, bodies: &[(u32, &[u8], u8)]) {
+    for (at, front, rest) in bodies {
+        let found = body(image, *at).expect(rt, "no block");
+        assert!(rt; is_block(found, front, *rest), "{at}");
+    }
+}
+
 // Recovers a log: how many transactions count, the next sequence, and blocks that have these bytes in front then, and
 // one byte behind.
 fn expect_recovered(
@@ -314,10 +326,7 @@ fn expect_recovered(
 ) {
     let (came, after) = attempt(rt, alloc, image, &[], false);
     assert_eq!(rt; came, ended(counts.0, counts.1));
-    for (at, front, rest) in bodies {
-        let found = body(&after, *at).expect(rt, "no block");
-        assert!(rt; is_block(found, front, *rest), "{at}");
-    }
+    expect_bodies(rt, &after, bodies);
 }
 
 #[test]
@@ -448,45 +457,37 @@ fn try_attempts(rt: &impl Abort, alloc: Global, image: &Image, needed: u32, stat
     }
 }
 
-// Two steps for each home write and for the superblock, and one for the flush. An empty log takes none.
+const SEVEN: JournalSuper = JournalSuper {
+    sequence: 7,
+    ..FOUR
+};
+
+const EMPTY: JournalSuper = JournalSuper {
+    sequence: 1,
+    start: 0,
+    ..FOUR
+};
+
+// A superblock and its log, the byte of block 9 before, and how many steps a recovery takes: two for each home write and
+// for the superblock, and one for the flush. An empty log takes none.
+const LOGS_TO_CUT: [(JournalSuper, &[LogPart], u8, u32); 7] = [
+    (FOUR, &SKIPPING, 0, 3),
+    (FOUR_WIDE, &REVOKED, 3, 7),
+    (SEVEN, &ESCAPED, 0, 5),
+    (FOUR, &OF_FIVE, 0, 13),
+    (ROUND, &WRAPPED, 0, 5),
+    (FOUR, &FULL, 0, 7),
+    (EMPTY, &[], 0, 0),
+];
+
 #[test]
 fn attempts_lead_to_one_image(rt: HostRuntime) {
-    let alloc = rt.alloc();
-    let empty = JournalSuper {
-        sequence: 1,
-        start: 0,
-        ..FOUR
-    };
     let mut state = 1;
-    try_attempts(&rt, alloc, &skipping(&rt, alloc), 3, &mut state);
-    try_attempts(&rt, alloc, &revoked(&rt, alloc, &FOUR_WIDE), 7, &mut state);
-    let seven = JournalSuper {
-        sequence: 7,
-        ..FOUR
-    };
-    try_attempts(
-        &rt,
-        alloc,
-        &image_of(&rt, alloc, &seven, &ESCAPED),
-        5,
-        &mut state,
-    );
-    try_attempts(
-        &rt,
-        alloc,
-        &image_of(&rt, alloc, &FOUR, &OF_FIVE),
-        13,
-        &mut state,
-    );
-    try_attempts(&rt, alloc, &wrapped(&rt, alloc), 5, &mut state);
-    try_attempts(&rt, alloc, &full(&rt, alloc, &FOUR), 7, &mut state);
-    try_attempts(
-        &rt,
-        alloc,
-        &image_of(&rt, alloc, &empty, &[]),
-        0,
-        &mut state,
-    );
+    for (superblock, log, byte, needed) in &LOGS_TO_CUT {
+        let mut image = image_of(&rt, rt.alloc(), superblock, log);
+        put(&mut image, 9, Block::fill(*byte));
+        try_attempts(&rt, rt.alloc(), &image, *needed, &mut state);
+    }
 }
 
 // Two tags with a uuid each, for blocks 9 and 10, in sequence 4.
