@@ -1,4 +1,4 @@
--- What the tests ask of the device: commands whose ids are given in order, for four blocks and sixteen ids.
+-- What the tests ask of a device: commands whose ids are given in order, for four blocks, and of the first one sixteen ids.
 use Rattle.std.specs.Prelude.{◌≡◌, ℕ, ◌+◌, ◌<◌, ◌==◌, length, All, Some, is_some, slice_get}
 use Rattle.order_model.specs.declared.part.Part.{Part}
 use Rattle.order_model.specs.declared.command.Command.{Command}

@@ -12,3 +12,5 @@ mod flash_log;
 pub mod ordered_devices;
 #[cfg(test)]
 mod stack;
+#[cfg(test)]
+mod steps;

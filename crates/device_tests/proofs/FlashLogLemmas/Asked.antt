@@ -9,7 +9,8 @@ use Rattle.order_model.proofs.Received.{all_ids-push}
 use Rattle.flog_device.specs.Log.{prefix, places}
 use Rattle.flog_device.specs.Device.{FlogState, received, surface}
 use Rattle.flog_device.specs.laws.LogFacts.{length-laid}
-use Rattle.device_tests.specs.flash_log.Asked.{HasTaken, IsNext}
+use Rattle.device_tests.specs.Asked.{IsNext}
+use Rattle.device_tests.specs.flash_log.Asked.{HasTaken}
 
 pub taken_next : (s next : FlogState) (n m : ℕ) (c : Command) → HasTaken s n → IsNext n m c → next ≡ received s c → HasTaken next m
 taken_next s next n m c h i e = subst (λ (t : FlogState). HasTaken t m) (sym e) (record { ids = ids; count = count; blocks = blocks; limit = h.limit })

@@ -1,9 +1,6 @@
--- What the tests ask of the device: commands whose ids are given in order, for four blocks and 64 ids.
-use Rattle.std.specs.Prelude.{◌≡◌, ℕ, ◌+◌, ◌<◌, ◌==◌, length, All, Some, is_some, slice_get}
-use Rattle.order_model.specs.declared.part.Part.{Part}
-use Rattle.order_model.specs.declared.command.Command.{Command}
-use Rattle.order_model.specs.declared.command.Priority.TheVariants.{Ordered}
-use Rattle.order_model.specs.Received.{ids_of, all_ids}
+-- What the tests ask of the flash log: four blocks, and ids up to 64 that are given in order.
+use Rattle.std.specs.Prelude.{◌≡◌, ℕ, length, Some, slice_get}
+use Rattle.order_model.specs.Received.{all_ids}
 use Rattle.flog_device.specs.Device.{FlogState, surface}
 
 -- the ids 0 to n were taken, in order
@@ -12,11 +9,3 @@ pub record HasTaken (s : FlogState) (n : ℕ) : Type 0 where
   pub count : length (all_ids s.took) ≡ n
   pub blocks : length (surface s) ≡ 4
   pub limit : s.limit ≡ 64
-
--- a command with the ids n to m
-pub record IsNext (n m : ℕ) (c : Command) : Type 0 where
-  pub whole : is_some c.flush ≡ (length c.parts == 0)
-  pub ordered : c.priority ≡ Ordered
-  pub within : All (λ (p : Part). p.block < 4) c.parts
-  pub ids : (i id : ℕ) → slice_get (ids_of c) i ≡ Some id → id ≡ n + i
-  pub count : n + length (ids_of c) ≡ m

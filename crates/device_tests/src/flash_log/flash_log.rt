@@ -1,13 +1,15 @@
 //! Tests of the device: worked rows, full logs, power cuts, and transfers that fail.
-ghost use Rattle.std.specs.Prelude.{◌≡◌, ◌+◌, ◌<◌, ◌≤◌, IfOk};
-ghost use Rattle.device_tests.specs.flash_log.Asked.{HasTaken, IsNext};
+ghost use Rattle.std.specs.Prelude.{◌≡◌, ◌+◌, ◌<◌, ◌≤◌};
+ghost use Rattle.device_tests.specs.Asked.{IsNext};
+ghost use Rattle.device_tests.specs.flash_log.Asked.{HasTaken};
 
-use blk_base::{Block, Image, NoMemory};
+use crate::steps::Step::{Answer, CanPersist, CanTransfer, Counts, Persist, Quiet, Room, Transfer};
+use crate::steps::{Row, flush, leaves, plays, put, put_two, repeats};
+use blk_base::{Block, Image};
 use flog_device::{FlogDevice, FlogSetup};
-use order_model::{Command, Completion, OrderedDev, Part, Parts, Priority};
+use order_model::{Command, Completion, OrderedDev};
 use std::alloc::Global;
 use std::process::Abort;
-use std::test::Fail;
 
 // The transfer that fails, and the steps after which the power is off.
 #[derive(Clone, Copy)]
@@ -22,11 +24,11 @@ const NO_FAULTS: Faults = Faults {
 };
 
 // A device of four blocks of zeros and three segments, for 64 ids.
-fn device(alloc: Global, depth: u32, faults: Faults) -> Result<FlogDevice, NoMemory>
+fn device(rt: &impl Abort, alloc: Global, depth: u32, faults: Faults) -> FlogDevice
     requires { (1 ≤ depth) × (depth ≤ 64) }
-    ensures { IfOk result (λ d. HasTaken d 0) }
+    ensures { HasTaken result 0 }
 {
-    let image = Image::zeroed(alloc, 4)?;
+    let image = Image::zeroed(alloc, 4).expect(rt, "no image");
     let setup = FlogSetup {
         depth,
         limit: 64,
@@ -34,7 +36,7 @@ fn device(alloc: Global, depth: u32, faults: Faults) -> Result<FlogDevice, NoMem
         fail_at: faults.fail_at,
         cut_at: faults.cut_at,
     };
-    FlogDevice::make(alloc, image, setup)
+    FlogDevice::make(alloc, image, setup).expect(rt, "no device")
 }
 
 // The block is filled with this byte, once the device is quiet.
@@ -47,57 +49,6 @@ fn reads(rt: &impl Abort, device: &mut FlogDevice, block: u32, fill: u8) {
             .is_ok_and(|body| body == Block::fill(fill))
     );
 }
-
-fn part_of(id: u64, block: u32, fill: u8) -> Part
-    ensures { (result.id ≡ id) × (result.block ≡ block) }
-{
-    Part {
-        id,
-        block,
-        body: Block::fill(fill),
-    }
-}
-
-fn put(id: u64, block: u32, fill: u8, barrier: bool) -> Command
-    requires { block < 4 }
-    ensures { IsNext id (id + 1) result }
-{
-    Command {
-        parts: Parts::one(part_of(id, block, fill)),
-        priority: Priority::Ordered,
-        barrier,
-        flush: None,
-    }
-}
-
-fn put_two(rt: &impl Abort, id: u64, block: u32) -> Command
-    requires blocks { block < 3 }
-    requires ids { id < 64 }
-    ensures { IsNext id (id + 2) result }
-{
-    let mut parts = Parts::one(part_of(id, block, 0x11));
-    assert!(rt; parts.push(part_of(id + 1, block + 1, 0x22)).is_ok());
-    Command {
-        parts,
-        priority: Priority::Ordered,
-        barrier: false,
-        flush: None,
-    }
-}
-
-fn flush(id: u64) -> Command
-    ensures { IsNext id (id + 1) result }
-{
-    Command {
-        parts: Parts::none(),
-        priority: Priority::Ordered,
-        barrier: false,
-        flush: Some(id),
-    }
-}
-
-// A put's block, the byte that it is filled with, and whether it is a barrier.
-type Row = (u32, u8, bool);
 
 // The device takes the command, which has the ids `from` to `to`.
 fn give(rt: &impl Abort, device: &mut FlogDevice, from: u64, to: u64, c: Command)
@@ -162,88 +113,9 @@ fn give_many(rt: &impl Abort, device: &mut FlogDevice)
     }
 }
 
-// The same step so often.
-fn repeats(rt: &impl Abort, device: &mut FlogDevice, count: u32, step: Step) {
-    for at in 0..count {
-        assert_eq!(rt; done(device, step), step, "time {at}");
-    }
-}
-
-// The four blocks of the image are filled with these bytes.
-fn is_filled(image: &Image, fills: [u8; 4]) -> bool {
-    if image.len() != 4 {
-        return false;
-    }
-    for b in 0..4 {
-        if *image.block(b) != Block::fill(fills[b as usize]) {
-            return false;
-        }
-    }
-    true
-}
-
-// What a test does with a device, each with the answer that it expects.
-#[derive(Clone, Copy, PartialEq, Eq, Debug)]
-enum Step {
-    CanTransfer(u32),
-    Transfer(u32, bool),
-    CanPersist(u32),
-    Persist(u32, bool),
-    Answer(Option<Completion>),
-    Room(bool),
-    Quiet(bool),
-    // What was taken, what was moved, what was sent, and the steps.
-    Counts(usize, usize, usize, u64),
-}
-
-use Step::{Answer, CanPersist, CanTransfer, Counts, Persist, Quiet, Room, Transfer};
-
-// The step with the answer that came.
-fn done(device: &mut FlogDevice, step: Step) -> Step {
-    match step {
-        CanTransfer(_) => CanTransfer(device.can_transfer()),
-        Transfer(pick, _) => Transfer(pick, device.transfer(pick)),
-        CanPersist(_) => CanPersist(device.can_persist()),
-        Persist(pick, _) => Persist(pick, device.persist(pick)),
-        Answer(_) => Answer(device.answer()),
-        Room(_) => Room(device.room()),
-        Quiet(_) => Quiet(device.is_quiet()),
-        Counts(..) => {
-            let trace = device.trace();
-            Counts(
-                trace.took.len(),
-                trace.moved.as_slice().len(),
-                trace.sent.as_slice().len(),
-                trace.steps,
-            )
-        }
-    }
-}
-
-// The device does the steps. The first with another answer than it names ends the process.
-fn plays(rt: &impl Abort, device: &mut FlogDevice, steps: &[Step]) {
-    for (at, step) in steps.iter().enumerate() {
-        assert_eq!(rt; done(device, *step), *step, "step {at}");
-    }
-}
-
-// The power goes off after so many steps. The blocks are filled with these bytes, of these puts.
-fn leaves(
-    rt: &impl Abort,
-    device: FlogDevice,
-    steps: u64,
-    fills: [u8; 4],
-    origins: [Option<u64>; 4],
-) {
-    let disk = device.cut();
-    assert!(rt; is_filled(&disk.image, fills));
-    assert_eq!(rt; disk.origins.as_slice(), origins.as_slice());
-    assert_eq!(rt; disk.trace.steps, steps);
-}
-
 // Puts of the blocks 0, 1 and 2 are transferred, and the pages of the last two programmed.
-fn with_gap(rt: &impl Abort, alloc: Global) -> Result<FlogDevice, NoMemory> {
-    let mut device = device(alloc, 32, NO_FAULTS)?;
+fn with_gap(rt: &impl Abort, alloc: Global) -> FlogDevice {
+    let mut device = device(rt, alloc, 32, NO_FAULTS);
     let puts = [(0, 0x11, false), (1, 0x22, false), (2, 0x33, false)];
     give_three(rt, &mut device, puts);
     let steps = [
@@ -260,29 +132,27 @@ fn with_gap(rt: &impl Abort, alloc: Global) -> Result<FlogDevice, NoMemory> {
         Counts(3, 3, 0, 5),
     ];
     plays(rt, &mut device, &steps);
-    Ok(device)
+    device
 }
 
 #[test]
-fn pages_behind_a_gap_are_dropped(rt: HostRuntime) -> Result<(), Fail> {
-    let device = with_gap(&rt, rt.alloc())?;
+fn pages_behind_a_gap_are_dropped(rt: HostRuntime) {
+    let device = with_gap(&rt, rt.alloc());
     leaves(&rt, device, 5, [0; 4], [None; 4]);
-    Ok(())
 }
 
 #[test]
-fn pages_are_kept_once_the_gap_is_filled(rt: HostRuntime) -> Result<(), Fail> {
-    let mut device = with_gap(&rt, rt.alloc())?;
+fn pages_are_kept_once_the_gap_is_filled(rt: HostRuntime) {
+    let mut device = with_gap(&rt, rt.alloc());
     plays(&rt, &mut device, &[Persist(0, true), CanPersist(1)]);
     let origins = [Some(0), Some(1), Some(2), None];
     leaves(&rt, device, 6, [0x11, 0x22, 0x33, 0], origins);
-    Ok(())
 }
 
 // A flush goes once each page is programmed. What was put is then read from the log.
 #[test]
-fn flush_waits_for_the_pages(rt: HostRuntime) -> Result<(), Fail> {
-    let mut device = device(rt.alloc(), 4, NO_FAULTS)?;
+fn flush_waits_for_the_pages(rt: HostRuntime) {
+    let mut device = device(&rt, rt.alloc(), 4, NO_FAULTS);
     give_put(&rt, &mut device, 0, (1, 0x11, false));
     give(&rt, &mut device, 1, 2, flush(1));
     let steps = [
@@ -302,24 +172,25 @@ fn flush_waits_for_the_pages(rt: HostRuntime) -> Result<(), Fail> {
     plays(&rt, &mut device, &steps);
     reads(&rt, &mut device, 0, 0);
     reads(&rt, &mut device, 1, 0x11);
-    Ok(())
+    drop(device);
 }
 
 #[test]
-fn one_command_fills_a_queue_of_depth_one(rt: HostRuntime) -> Result<(), Fail> {
-    let mut device = device(rt.alloc(), 1, NO_FAULTS)?;
-    assert!(rt; device.room());
+fn one_command_fills_a_queue_of_depth_one(rt: HostRuntime) {
+    let mut device = device(&rt, rt.alloc(), 1, NO_FAULTS);
+    let before = device.room();
     give_put(&rt, &mut device, 0, (0, 0x11, false));
-    assert!(rt; !device.room());
-    assert!(rt; refuses(&mut device, 1, 2, put(1, 1, 0x22, false)));
-    Ok(())
+    let behind = device.room();
+    let refused = refuses(&mut device, 1, 2, put(1, 1, 0x22, false));
+    assert_eq!(rt; [before, behind, refused], [true, false, true]);
+    drop(device);
 }
 
 // 47 puts leave one place, so a command of two parts waits until a segment is erased. It then gets places
 // of a segment that was used before.
 #[test]
-fn full_log_goes_on_once_a_segment_is_erased(rt: HostRuntime) -> Result<(), Fail> {
-    let mut device = device(rt.alloc(), 64, NO_FAULTS)?;
+fn full_log_goes_on_once_a_segment_is_erased(rt: HostRuntime) {
+    let mut device = device(&rt, rt.alloc(), 64, NO_FAULTS);
     give_many(&rt, &mut device);
     lend(&rt, &mut device, 47, 49, &put_two(&rt, 47, 1));
     repeats(&rt, &mut device, 47, Transfer(0, true));
@@ -341,13 +212,12 @@ fn full_log_goes_on_once_a_segment_is_erased(rt: HostRuntime) -> Result<(), Fail
     reads(&rt, &mut device, 3, 44);
     let origins = [Some(44), Some(47), Some(48), Some(43)];
     leaves(&rt, device, 146, [45, 0x11, 0x22, 44], origins);
-    Ok(())
 }
 
 // Two puts of block 0: the fold of the first one leaves what the second one wrote.
 #[test]
-fn fold_leaves_a_later_page_of_the_block(rt: HostRuntime) -> Result<(), Fail> {
-    let mut device = device(rt.alloc(), 4, NO_FAULTS)?;
+fn fold_leaves_a_later_page_of_the_block(rt: HostRuntime) {
+    let mut device = device(&rt, rt.alloc(), 4, NO_FAULTS);
     let puts = [(0, 0x11, false), (0, 0x22, false), (1, 0x33, false)];
     give_three(&rt, &mut device, puts);
     repeats(&rt, &mut device, 3, Transfer(0, true));
@@ -360,13 +230,12 @@ fn fold_leaves_a_later_page_of_the_block(rt: HostRuntime) -> Result<(), Fail> {
     ];
     plays(&rt, &mut device, &steps);
     leaves(&rt, device, 6, [0x22, 0, 0, 0], [Some(1), None, None, None]);
-    Ok(())
 }
 
 // A page behind a gap has the block of the page that is folded, and does not count.
 #[test]
-fn fold_passes_over_a_page_behind_a_gap(rt: HostRuntime) -> Result<(), Fail> {
-    let mut device = device(rt.alloc(), 4, NO_FAULTS)?;
+fn fold_passes_over_a_page_behind_a_gap(rt: HostRuntime) {
+    let mut device = device(&rt, rt.alloc(), 4, NO_FAULTS);
     let puts = [(0, 0x11, false), (1, 0x22, false), (0, 0x33, false)];
     give_three(&rt, &mut device, puts);
     repeats(&rt, &mut device, 3, Transfer(0, true));
@@ -380,16 +249,15 @@ fn fold_passes_over_a_page_behind_a_gap(rt: HostRuntime) -> Result<(), Fail> {
     ];
     plays(&rt, &mut device, &steps);
     leaves(&rt, device, 6, [0x11, 0, 0, 0], [Some(0), None, None, None]);
-    Ok(())
 }
 
 #[test]
-fn power_goes_off_after_two_steps(rt: HostRuntime) -> Result<(), Fail> {
+fn power_goes_off_after_two_steps(rt: HostRuntime) {
     let faults = Faults {
         fail_at: None,
         cut_at: Some(2),
     };
-    let mut device = device(rt.alloc(), 4, faults)?;
+    let mut device = device(&rt, rt.alloc(), 4, faults);
     give_put(&rt, &mut device, 0, (0, 0x11, false));
     give_put(&rt, &mut device, 1, (1, 0x22, false));
     let steps = [
@@ -407,17 +275,16 @@ fn power_goes_off_after_two_steps(rt: HostRuntime) -> Result<(), Fail> {
     ];
     plays(&rt, &mut device, &steps);
     leaves(&rt, device, 2, [0x11, 0, 0, 0], [Some(0), None, None, None]);
-    Ok(())
 }
 
 // Of three transfers the second fails. What the first one moved is programmed and folded all the same.
 #[test]
-fn writes_go_on_after_a_failed_transfer(rt: HostRuntime) -> Result<(), Fail> {
+fn writes_go_on_after_a_failed_transfer(rt: HostRuntime) {
     let faults = Faults {
         fail_at: Some(2),
         cut_at: None,
     };
-    let mut device = device(rt.alloc(), 4, faults)?;
+    let mut device = device(&rt, rt.alloc(), 4, faults);
     let puts = [(0, 0x11, false), (1, 0x22, true), (2, 0x33, false)];
     give_three(&rt, &mut device, puts);
     let steps = [
@@ -438,5 +305,4 @@ fn writes_go_on_after_a_failed_transfer(rt: HostRuntime) -> Result<(), Fail> {
     ];
     plays(&rt, &mut device, &steps);
     leaves(&rt, device, 4, [0x11, 0, 0, 0], [Some(0), None, None, None]);
-    Ok(())
 }

@@ -5,7 +5,6 @@ use script_grammar::read_script;
 use stack_core::{Report, core_run};
 use std::alloc::Global;
 use std::process::Abort;
-use std::test::Fail;
 
 // What a run left: its steps, how many requests were submitted, how many the scheduler accepted, how many parts were
 // moved; and the origins.
@@ -23,8 +22,7 @@ fn compare(
         report.sched.accepted.len(),
         moved,
     );
-    assert_eq!(rt; came, counts);
-    assert_eq!(rt; report.cut.origins.as_slice(), origins);
+    assert_eq!(rt; (came, report.cut.origins.as_slice()), (counts, origins));
 }
 
 // The scheduler sent the requests with these ids, each as a command of its own, and the device took them.
@@ -44,20 +42,21 @@ fn leaves(
     counts: (u64, usize, usize, usize),
     sent: &[u64],
     origins: &[Option<u64>],
-) -> Result<(), Fail>
+)
     requires { length text.now ≤ 4194304 }
 {
-    let script = read_script(alloc, text)?;
-    let report = core_run(alloc, &script)?;
+    let script = read_script(alloc, text).expect(rt, "no script");
+    let report = core_run(alloc, &script).expect(rt, "no run");
+    drop(script);
     compare(rt, &report, counts, origins);
     compare_sent(rt, &report, sent);
-    Ok(())
+    drop(report);
 }
 
 // Request 2 finds the dispatch queue full and is kept. The next dispatch sends it, whatever it picks, and
 // takes no other one: request 1 could go, and stays.
 #[test]
-fn keeps_a_command_that_finds_the_queue_full(rt: HostRuntime) -> Result<(), Fail> {
+fn keeps_a_command_that_finds_the_queue_full(rt: HostRuntime) {
     let text = b"blocks 3
 queue 1
 put 0 11 free
@@ -79,32 +78,32 @@ transfer 0 x 2
 persist 0 x 2
 ";
     let origins = [Some(0), None, Some(2)];
-    leaves(&rt, rt.alloc(), text, (4, 3, 3, 2), &[0, 2], &origins)
+    leaves(&rt, rt.alloc(), text, (4, 3, 3, 2), &[0, 2], &origins);
 }
 
 #[test]
-fn submits_no_more_than_the_queue_holds(rt: HostRuntime) -> Result<(), Fail> {
+fn submits_no_more_than_the_queue_holds(rt: HostRuntime) {
     let text =
         b"blocks 1\nqueue 2\nput 0 11 free\nput 0 22 free\nput 0 33 free\nevents\nsubmit x 5\n";
-    leaves(&rt, rt.alloc(), text, (0, 2, 0, 0), &[], &[None])
+    leaves(&rt, rt.alloc(), text, (0, 2, 0, 0), &[], &[None]);
 }
 
 #[test]
-fn accepts_nothing_while_a_barrier_is_closing(rt: HostRuntime) -> Result<(), Fail> {
+fn accepts_nothing_while_a_barrier_is_closing(rt: HostRuntime) {
     let text =
         b"blocks 2\nput 0 11 barrier\nput 1 22 free\nevents\nsubmit x 2\naccept x 2\ndispatch 0\nreceive\n";
-    leaves(&rt, rt.alloc(), text, (0, 2, 1, 0), &[0], &[None, None])
+    leaves(&rt, rt.alloc(), text, (0, 2, 1, 0), &[0], &[None, None]);
 }
 
 #[test]
-fn has_no_scheduler_in_a_device_script(rt: HostRuntime) -> Result<(), Fail> {
+fn has_no_scheduler_in_a_device_script(rt: HostRuntime) {
     let text = b"device 2\nput 0 11 free\nput 1 22 free\nevents\nreceive\ntransfer 0\npersist 0\n";
-    leaves(&rt, rt.alloc(), text, (2, 1, 0, 1), &[], &[Some(0), None])
+    leaves(&rt, rt.alloc(), text, (2, 1, 0, 1), &[], &[Some(0), None]);
 }
 
 // On a flash log: of three pages the second and the third are programmed, and what lies behind the first one is lost.
 #[test]
-fn drops_what_lies_behind_a_gap(rt: HostRuntime) -> Result<(), Fail> {
+fn drops_what_lies_behind_a_gap(rt: HostRuntime) {
     let text = b"device 3
 flash 3
 put 0 11 ordered
@@ -116,12 +115,12 @@ transfer 0 x 3
 persist 1 x 2
 ";
     let origins = [None, None, None];
-    leaves(&rt, rt.alloc(), text, (5, 3, 0, 3), &[], &origins)
+    leaves(&rt, rt.alloc(), text, (5, 3, 0, 3), &[], &origins);
 }
 
 // Once the first page is programmed too, each block has its put.
 #[test]
-fn has_all_once_the_gap_is_filled(rt: HostRuntime) -> Result<(), Fail> {
+fn has_all_once_the_gap_is_filled(rt: HostRuntime) {
     let text = b"device 3
 flash 3
 put 0 11 ordered
@@ -134,12 +133,12 @@ persist 1 x 2
 persist 0
 ";
     let origins = [Some(0), Some(1), Some(2)];
-    leaves(&rt, rt.alloc(), text, (6, 3, 0, 3), &[], &origins)
+    leaves(&rt, rt.alloc(), text, (6, 3, 0, 3), &[], &origins);
 }
 
 // Nothing is transferred behind a transfer that failed, and so nothing is written.
 #[test]
-fn first_transfer_of_a_run_fails(rt: HostRuntime) -> Result<(), Fail> {
+fn first_transfer_of_a_run_fails(rt: HostRuntime) {
     let text = b"device 2
 fail 1
 put 0 11 free
@@ -149,12 +148,12 @@ receive x 2
 transfer 0 x 2
 persist 0 x 2
 ";
-    leaves(&rt, rt.alloc(), text, (1, 2, 0, 0), &[], &[None, None])
+    leaves(&rt, rt.alloc(), text, (1, 2, 0, 0), &[], &[None, None]);
 }
 
 // What was transferred before it is written.
 #[test]
-fn a_later_transfer_of_a_run_fails(rt: HostRuntime) -> Result<(), Fail> {
+fn a_later_transfer_of_a_run_fails(rt: HostRuntime) {
     let text = b"device 3
 fail 2
 put 0 11 free
@@ -166,11 +165,11 @@ transfer 0 x 3
 persist 0 x 3
 ";
     let origins = [Some(0), None, None];
-    leaves(&rt, rt.alloc(), text, (3, 3, 0, 1), &[], &origins)
+    leaves(&rt, rt.alloc(), text, (3, 3, 0, 1), &[], &origins);
 }
 
 #[test]
-fn a_flush_of_a_run_fails(rt: HostRuntime) -> Result<(), Fail> {
+fn a_flush_of_a_run_fails(rt: HostRuntime) {
     let text = b"device 2
 fail 2
 put 0 11 free
@@ -183,12 +182,12 @@ persist 0
 transfer 0 x 2
 persist 0
 ";
-    leaves(&rt, rt.alloc(), text, (3, 3, 0, 1), &[], &[Some(0), None])
+    leaves(&rt, rt.alloc(), text, (3, 3, 0, 1), &[], &[Some(0), None]);
 }
 
 // The command that fails leaves the queue, which has one place: the next one is taken, and stays there.
 #[test]
-fn a_failed_command_leaves_the_queue(rt: HostRuntime) -> Result<(), Fail> {
+fn a_failed_command_leaves_the_queue(rt: HostRuntime) {
     let text = b"device 3
 depth 1
 fail 1
@@ -203,20 +202,20 @@ transfer 0
 persist 0
 ";
     let origins = [None, None, None];
-    leaves(&rt, rt.alloc(), text, (1, 2, 0, 0), &[], &origins)
+    leaves(&rt, rt.alloc(), text, (1, 2, 0, 0), &[], &origins);
 }
 
 // The transfer that fails is the step at which the power goes off. The second request is not taken.
 #[test]
-fn a_run_fails_and_goes_off(rt: HostRuntime) -> Result<(), Fail> {
+fn a_run_fails_and_goes_off(rt: HostRuntime) {
     let text =
         b"device 1\ncut 1\nfail 1\nput 0 11 free\nput 0 22 free\nevents\nreceive\ntransfer 0\nreceive\npersist 0\n";
-    leaves(&rt, rt.alloc(), text, (1, 1, 0, 0), &[], &[None])
+    leaves(&rt, rt.alloc(), text, (1, 1, 0, 0), &[], &[None]);
 }
 
 // A failed command of the scheduler is sent out and taken, and its barrier is not on the medium; nor is what comes behind it.
 #[test]
-fn a_barrier_behind_a_scheduler_fails(rt: HostRuntime) -> Result<(), Fail> {
+fn a_barrier_behind_a_scheduler_fails(rt: HostRuntime) {
     let text = b"blocks 3
 fail 2
 put 0 11 ordered
@@ -233,5 +232,5 @@ transfer 0 x 3
 persist 0 x 3
 ";
     let origins = [Some(0), None, None];
-    leaves(&rt, rt.alloc(), text, (3, 3, 3, 1), &[0, 1, 2], &origins)
+    leaves(&rt, rt.alloc(), text, (3, 3, 3, 1), &[0, 1, 2], &origins);
 }
