@@ -1,15 +1,15 @@
 //! Images through the top call.
 use crate::make_tests::put;
-use crate::tests::{expect_fault, expect_tree, run};
+use crate::tests::{expect_fault, expect_tree};
 use barrierfs_top::TopFault;
-use blk_base::{Block, NoMemory};
+use blk_base::Block;
 use minix_layout::{
     DEFAULT_WIDTH, Geometry, Inode, Name, Slot, Zones, slots_a_block, write_inode, write_slot,
     write_super,
 };
 use mount_make::ImageFault;
-use std::alloc::Global;
-use std::test::Fail;
+use std::alloc::{AllocError, Global};
+use std::process::Abort;
 
 fn inode(mode: u16, size: u32, links: u8, zone: u16) -> Inode {
     Inode {
@@ -33,11 +33,11 @@ fn put_name(zone: &mut Block, at: u8, inode: u16, name: &[u8]) {
     }
 }
 
-// An image of 8 blocks, with a device in its root.
-fn foreign(alloc: Global) -> Result<Vec<u8>, NoMemory> {
+// The six blocks in front of an image of so many zones, whose root has a file, inode 2, with this name.
+fn front_of(alloc: Global, zones: u16, file: &Inode, name: &[u8]) -> Result<Vec<u8>, AllocError> {
     let g = Geometry {
         inodes: 32,
-        zones: 8,
+        zones,
         imap: 1,
         zmap: 1,
         first: 5,
@@ -45,99 +45,68 @@ fn foreign(alloc: Global) -> Result<Vec<u8>, NoMemory> {
     };
     let mut table = Block::fill(0);
     write_inode(&mut table, 0, &inode(0o040755, 48, 2, 5));
-    write_inode(&mut table, 1, &inode(0o020666, 0, 1, 0x0103));
+    write_inode(&mut table, 1, file);
     let mut root = Block::fill(0);
     put_name(&mut root, 0, 1, b".");
     put_name(&mut root, 1, 1, b"..");
-    put_name(&mut root, 2, 2, b"null");
-    let empty = Block::fill(0);
-    let blocks = [
-        &empty,
-        &write_super(&g),
-        &empty,
-        &empty,
-        &table,
-        &root,
-        &empty,
-        &empty,
-    ];
-    let mut bytes = Vec::new(alloc);
-    for block in blocks {
-        bytes.extend_from_slice(block.as_slice())?;
-    }
-    Ok(bytes)
-}
-
-// An image of a megabyte, 1,024 blocks, whose root has a file in the last of them.
-fn megabyte(alloc: Global) -> Result<Vec<u8>, NoMemory> {
-    let g = Geometry {
-        inodes: 32,
-        zones: 1024,
-        imap: 1,
-        zmap: 1,
-        first: 5,
-        width: DEFAULT_WIDTH,
-    };
-    let mut table = Block::fill(0);
-    write_inode(&mut table, 0, &inode(0o040755, 48, 2, 5));
-    write_inode(&mut table, 1, &inode(0o100644, 1024, 1, 1023));
-    let mut root = Block::fill(0);
-    put_name(&mut root, 0, 1, b".");
-    put_name(&mut root, 1, 1, b"..");
-    put_name(&mut root, 2, 2, b"last");
+    put_name(&mut root, 2, 2, name);
     let empty = Block::fill(0);
     let mut bytes = Vec::new(alloc);
     for block in [&empty, &write_super(&g), &empty, &empty, &table, &root] {
         bytes.extend_from_slice(block.as_slice())?;
     }
-    for _ in 6..1023 {
-        bytes.extend_from_slice(empty.as_slice())?;
-    }
-    bytes.extend_from_slice(Block::fill(0x61).as_slice())?;
+    Ok(bytes)
+}
+
+// An image of 8 blocks, with a device in its root.
+fn foreign(alloc: Global) -> Result<Vec<u8>, AllocError> {
+    let mut bytes = front_of(alloc, 8, &inode(0o020666, 0, 1, 0x0103), b"null")?;
+    bytes.resize(8192, 0)?;
+    Ok(bytes)
+}
+
+// An image of a megabyte, 1,024 blocks, whose root has a file in the last of them.
+fn megabyte(alloc: Global) -> Result<Vec<u8>, AllocError> {
+    let mut bytes = front_of(alloc, 1024, &inode(0o100644, 1024, 1, 1023), b"last")?;
+    bytes.resize(1_047_552, 0)?;
+    bytes.resize(1_048_576, 0x61)?;
     Ok(bytes)
 }
 
 #[test]
-fn shows_a_megabyte(rt: HostRuntime) -> Result<(), Fail> {
+fn shows_a_megabyte(rt: HostRuntime) {
     let alloc = rt.alloc();
-    let bytes = megabyte(alloc)?;
+    let bytes = megabyte(alloc).expect(&rt, "no memory");
     assert_eq!(rt; bytes.len(), 1_048_576);
     let tree = "dir /\nfile /last size 1024 links 1\nblock 0 1024x61\n";
-    expect_tree(&rt, alloc, &bytes, tree)?;
-    Ok(())
+    expect_tree(&rt, alloc, &bytes, tree);
 }
 
 #[test]
-fn shows_a_foreign_image(rt: HostRuntime) -> Result<(), Fail> {
+fn shows_a_foreign_image(rt: HostRuntime) {
     let alloc = rt.alloc();
-    let bytes = foreign(alloc)?;
-    expect_tree(&rt, alloc, &bytes, "dir /\nother /null mode 020666\n")?;
-    Ok(())
+    let bytes = foreign(alloc).expect(&rt, "no memory");
+    expect_tree(&rt, alloc, &bytes, "dir /\nother /null mode 020666\n");
 }
 
 // Under the magic number of names of 30 bytes the root's 48 bytes are no whole number of slots. Of 64 bytes the slots are
 // `.`, and `null` in place of `..`.
 #[test]
-fn shows_a_foreign_image_with_long_names(rt: HostRuntime) -> Result<(), Fail> {
+fn shows_a_foreign_image_with_long_names(rt: HostRuntime) {
     let alloc = rt.alloc();
-    let mut bytes = foreign(alloc)?;
+    let mut bytes = foreign(alloc).expect(&rt, "no memory");
     put(bytes.as_mut_slice(), 1040, b"\x8f\x13");
-    let found = run(alloc, &["show"], bytes.as_slice())?;
     let fault = TopFault::Image(ImageFault::BadInode, 4);
-    expect_fault(&rt, &found, 4, fault, "half a slot");
+    expect_fault(&rt, alloc, &["show"], &bytes, (4, fault), "half a slot");
     put(bytes.as_mut_slice(), 4100, b"\x40");
-    let tree = "dir /\nother /null mode 020666\n";
-    expect_tree(&rt, alloc, bytes.as_slice(), tree)?;
-    Ok(())
+    expect_tree(&rt, alloc, &bytes, "dir /\nother /null mode 020666\n");
 }
 
 #[test]
-fn refuses_a_foreign_image_that_is_cut_off(rt: HostRuntime) -> Result<(), Fail> {
+fn refuses_a_foreign_image_that_is_cut_off(rt: HostRuntime) {
     let alloc = rt.alloc();
-    let bytes = foreign(alloc)?;
-    let front = bytes.get(..4596).ok_or("short")?;
-    let found = run(alloc, &["show"], front)?;
+    let bytes = foreign(alloc).expect(&rt, "no memory");
+    let front = bytes.get(..4596).expect(&rt, "short");
     let fault = TopFault::Image(ImageFault::BadGeometry, 4);
-    expect_fault(&rt, &found, 4, fault, "cut off");
-    Ok(())
+    expect_fault(&rt, alloc, &["show"], front, (4, fault), "cut off");
 }

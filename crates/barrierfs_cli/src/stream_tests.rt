@@ -2,16 +2,25 @@
 ghost use Rattle.std.specs.Prelude.{None};
 
 use crate::make_tests::made;
-use crate::tests::{end_of, run};
-use blk_base::{Failed, MemSink, MemSource, NoMemory, Sink};
+use crate::tests::{end_of, printed_of, sink_of, source_of};
+use blk_base::{Failed, Sink};
 use std::alloc::Global;
 use std::process::Abort;
-use std::test::Fail;
 
 const BLOCKS: &[u8] = b"device 1\nput 0 11 free\nevents\nreceive\ntransfer 0\npersist 0\n";
 
 const SESSION: &[u8] =
     b"volume inodes 32 zones 64 journal 128\nthread 1\ncreate /a\nsync\nevents\nround 60\n";
+
+// Words, and the scripts that they read.
+const OF_SCRIPTS: [(&[&str], &[u8]); 3] = [
+    (&["replay"], BLOCKS),
+    (&["replay"], SESSION),
+    (&["replay", "--raw"], SESSION),
+];
+
+// Words that read an image.
+const OF_IMAGES: [&[&str]; 3] = [&["show"], &["widen"], &["widen", "--raw"]];
 
 // A sink that takes one byte a call.
 #[derive(Drop)]
@@ -39,113 +48,111 @@ impl Sink for Trickle {
 
 // The status where this read fails, counted from 1, and how much was written.
 fn with_failed_read(
-    alloc: Global,
-    words: &[&str],
-    input: &[u8],
-    read: u64,
-) -> Result<(u8, usize), NoMemory> {
-    let mut source = MemSource::new(input.to_vec(alloc)?, [read].to_vec(alloc)?);
-    let mut sink = MemSink::new(Vec::new(alloc), Vec::new(alloc));
-    let ended = end_of(alloc, words, &mut source, &mut sink)?;
-    Ok((ended.status, sink.bytes().len()))
-}
-
-// Lets each read fail in turn, until there are no more.
-fn expect_source_faults(
     rt: &impl Abort,
     alloc: Global,
     words: &[&str],
     input: &[u8],
-) -> Result<(), NoMemory> {
+    read: u64,
+) -> (u8, usize) {
+    let mut source = source_of(rt, alloc, input, &[read]);
+    let mut sink = sink_of(rt, alloc, &[]);
+    let status = end_of(rt, alloc, words, &mut source, &mut sink).status;
+    (status, sink.bytes().len())
+}
+
+// Lets each read fail in turn, until there are no more.
+fn expect_source_faults(rt: &impl Abort, alloc: Global, words: &[&str], input: &[u8]) {
     for read in 1..1000 {
-        let (status, written) = with_failed_read(alloc, words, input, read)?;
+        let (status, written) = with_failed_read(rt, alloc, words, input, read);
         if status == 0 {
             assert!(rt; read > 1, "{words:?}");
-            return Ok(());
+            return;
         }
         assert_eq!(rt; (status, written), (5, 0), "{words:?}: read {read}");
     }
     panic!(rt; "{words:?} does not end")
 }
 
-// Lets each write fail in turn, until there are no more: a front of the output went out.
-fn expect_sink_faults(
+// The status where this write fails, whether a front of the whole output went out, and how much.
+fn with_failed_write(
     rt: &impl Abort,
     alloc: Global,
     words: &[&str],
     input: &[u8],
-) -> Result<(), NoMemory> {
-    let whole = run(alloc, words, input)?.printed;
+    whole: &[u8],
+    write: u64,
+) -> (u8, bool, usize) {
+    let mut source = source_of(rt, alloc, input, &[]);
+    let mut sink = sink_of(rt, alloc, &[write]);
+    let status = end_of(rt, alloc, words, &mut source, &mut sink).status;
+    (status, whole.starts_with(sink.bytes()), sink.bytes().len())
+}
+
+// Lets each write fail in turn, until there are no more: a front of the output went out.
+fn expect_sink_faults(rt: &impl Abort, alloc: Global, words: &[&str], input: &[u8], whole: &[u8]) {
     for write in 1..1000 {
-        let mut source = MemSource::new(input.to_vec(alloc)?, Vec::new(alloc));
-        let mut sink = MemSink::new(Vec::new(alloc), [write].to_vec(alloc)?);
-        let status = end_of(alloc, words, &mut source, &mut sink)?.status;
-        assert!(rt;
-            whole.as_slice().starts_with(sink.bytes()),
-            "{words:?}: write {write}"
-        );
+        let (status, is_front, written) = with_failed_write(rt, alloc, words, input, whole, write);
         if status == 0 {
-            assert!(rt; write > 1 && sink.bytes().len() == whole.len(), "{words:?}");
-            return Ok(());
+            assert!(rt;
+                write > 1 && is_front && written == whole.len(),
+                "{words:?}"
+            );
+            return;
         }
-        assert_eq!(rt; status, 6, "{words:?}: write {write}");
+        assert_eq!(rt; (status, is_front), (6, true), "{words:?}: write {write}");
     }
     panic!(rt; "{words:?} does not end")
 }
 
 // A sink that takes one byte a call gets the same output.
-fn expect_all_by_bytes(
-    rt: &impl Abort,
-    alloc: Global,
-    words: &[&str],
-    input: &[u8],
-) -> Result<(), NoMemory> {
-    let whole = run(alloc, words, input)?.printed;
-    let mut source = MemSource::new(input.to_vec(alloc)?, Vec::new(alloc));
+fn expect_all_by_bytes(rt: &impl Abort, alloc: Global, words: &[&str], input: &[u8], whole: &[u8]) {
+    let mut source = source_of(rt, alloc, input, &[]);
     let mut sink = Trickle {
         bytes: Vec::new(alloc),
         faults: 0,
     };
-    let status = end_of(alloc, words, &mut source, &mut sink)?.status;
-    assert_eq!(rt; status, 0, "{words:?}");
-    assert_eq!(rt; sink.bytes.as_slice(), whole.as_slice(), "{words:?}");
-    Ok(())
+    let status = end_of(rt, alloc, words, &mut source, &mut sink).status;
+    assert_eq!(rt; (status, sink.bytes.as_slice()), (0, whole), "{words:?}");
+}
+
+// What goes out where a write fails, and where a call takes one byte, beside the whole output.
+fn expect_writes(rt: &impl Abort, alloc: Global, words: &[&str], input: &[u8]) {
+    let whole = printed_of(rt, alloc, words, input);
+    expect_sink_faults(rt, alloc, words, input, &whole);
+    expect_all_by_bytes(rt, alloc, words, input, &whole);
+}
+
+// Each way to read this image, with each read that fails.
+fn expect_source_faults_of_images(rt: &impl Abort, alloc: Global, image: &[u8]) {
+    for words in &OF_IMAGES {
+        expect_source_faults(rt, alloc, words, image);
+    }
 }
 
 #[test]
-fn tells_of_each_read_that_fails(rt: HostRuntime) -> Result<(), Fail> {
+fn tells_of_each_read_that_fails(rt: HostRuntime) {
     let alloc = rt.alloc();
-    let image = made(alloc)?;
-    let rows: [(&[&str], &[u8]); 6] = [
-        (&["replay"], BLOCKS),
-        (&["replay"], SESSION),
-        (&["replay", "--raw"], SESSION),
-        (&["show"], image.as_slice()),
-        (&["widen"], image.as_slice()),
-        (&["widen", "--raw"], image.as_slice()),
-    ];
-    for (words, input) in rows {
-        expect_source_faults(&rt, alloc, words, input)?;
+    for (words, input) in &OF_SCRIPTS {
+        expect_source_faults(&rt, alloc, words, input);
     }
-    Ok(())
+    let image = made(&rt, alloc);
+    expect_source_faults_of_images(&rt, alloc, &image);
+}
+
+// Each way to read this image, with each write that fails.
+fn expect_writes_of_images(rt: &impl Abort, alloc: Global, image: &[u8]) {
+    for words in &OF_IMAGES {
+        expect_writes(rt, alloc, words, image);
+    }
 }
 
 #[test]
-fn tells_of_each_write_that_fails(rt: HostRuntime) -> Result<(), Fail> {
+fn tells_of_each_write_that_fails(rt: HostRuntime) {
     let alloc = rt.alloc();
-    let image = made(alloc)?;
-    let rows: [(&[&str], &[u8]); 7] = [
-        (&["replay"], BLOCKS),
-        (&["replay"], SESSION),
-        (&["replay", "--raw"], SESSION),
-        (&["show"], image.as_slice()),
-        (&["widen"], image.as_slice()),
-        (&["widen", "--raw"], image.as_slice()),
-        (&["make", "32", "64", "128"], b""),
-    ];
-    for (words, input) in rows {
-        expect_sink_faults(&rt, alloc, words, input)?;
-        expect_all_by_bytes(&rt, alloc, words, input)?;
+    for (words, input) in &OF_SCRIPTS {
+        expect_writes(&rt, alloc, words, input);
     }
-    Ok(())
+    expect_writes(&rt, alloc, &["make", "32", "64", "128"], b"");
+    let image = made(&rt, alloc);
+    expect_writes_of_images(&rt, alloc, &image);
 }

@@ -7,57 +7,97 @@ use device_epochs::{DeviceSetup, EpochDevice};
 use mount_make::ImageFault;
 use order_model::lawful_blocks;
 use script_grammar::ScriptKind;
-use std::alloc::Global;
+use std::alloc::{AllocError, Global};
 use std::process::Abort;
-use std::test::Fail;
 
-// How the program ends with these words.
-pub fn end_of<R: Source, W: Sink>(
-    alloc: Global,
-    list: &[&str],
-    src: &mut R,
-    out: &mut W,
-) -> Result<Ended, NoMemory> {
+fn words_of(alloc: Global, list: &[&str]) -> Result<Words, NoMemory> {
     let mut words = Words::make(alloc);
     for word in list {
         words.push(alloc, word)?;
     }
-    Ok(run_words(alloc, &words, src, out))
+    Ok(words)
+}
+
+// How the program ends with these words.
+pub fn end_of<R: Source, W: Sink>(
+    rt: &impl Abort,
+    alloc: Global,
+    list: &[&str],
+    src: &mut R,
+    out: &mut W,
+) -> Ended {
+    let words = words_of(alloc, list).expect(rt, "no memory");
+    run_words(alloc, &words, src, out)
 }
 
 // How the program ended, and what was written.
 #[derive(Drop)]
 pub struct Outcome {
-    pub ended: Ended,
+    pub status: u8,
+    pub fault: Option<TopFault>,
+    pub reported: bool,
     pub printed: Vec<u8>,
 }
 
-pub fn run(alloc: Global, list: &[&str], input: &[u8]) -> Result<Outcome, NoMemory> {
-    let mut source = MemSource::new(input.to_vec(alloc)?, Vec::new(alloc));
-    let mut sink = MemSink::new(Vec::new(alloc), Vec::new(alloc));
-    let ended = end_of(alloc, list, &mut source, &mut sink)?;
-    Ok(Outcome {
-        ended,
-        printed: sink.bytes().to_vec(alloc)?,
-    })
+// A source of these bytes, and the numbers of its reads that fail, counted from 1.
+pub fn source_of(rt: &impl Abort, alloc: Global, bytes: &[u8], fails: &[u64]) -> MemSource {
+    MemSource::new(
+        bytes.to_vec(alloc).expect(rt, "no memory"),
+        fails.to_vec(alloc).expect(rt, "no memory"),
+    )
+}
+
+// An empty sink, and the numbers of its writes that fail.
+pub fn sink_of(rt: &impl Abort, alloc: Global, fails: &[u64]) -> MemSink {
+    MemSink::new(Vec::new(alloc), fails.to_vec(alloc).expect(rt, "no memory"))
+}
+
+pub fn run(rt: &impl Abort, alloc: Global, list: &[&str], input: &[u8]) -> Outcome {
+    let mut source = source_of(rt, alloc, input, &[]);
+    let mut sink = sink_of(rt, alloc, &[]);
+    let ended = end_of(rt, alloc, list, &mut source, &mut sink);
+    Outcome {
+        status: ended.status,
+        fault: ended.fault,
+        reported: ended.reported,
+        printed: sink.bytes().to_vec(alloc).expect(rt, "no memory"),
+    }
+}
+
+// What these words make of the input.
+pub fn printed_of(rt: &impl Abort, alloc: Global, list: &[&str], input: &[u8]) -> Vec<u8> {
+    run(rt, alloc, list, input).printed
+}
+
+// The run of these words ends so: its status, its fault, whether a script was run, and what is written.
+pub fn expect_end(
+    rt: &impl Abort,
+    alloc: Global,
+    words: &[&str],
+    input: &[u8],
+    end: (u8, Option<TopFault>, bool, &[u8]),
+    what: &str,
+) {
+    let found = run(rt, alloc, words, input);
+    let printed = found.printed.as_slice();
+    assert_eq!(rt;
+        (found.status, found.fault, found.reported, printed),
+        end,
+        "{words:?}: {what}"
+    );
 }
 
 // Runs a script, which ends well and prints this.
-pub fn expect_replay(
-    rt: &impl Abort,
-    alloc: Global,
-    script: &str,
-    printed: &str,
-) -> Result<(), NoMemory> {
-    let found = run(alloc, &["replay"], script.as_bytes())?;
-    let well = Ended {
-        status: 0,
-        fault: None,
-        reported: true,
-    };
-    assert_eq!(rt; found.ended, well, "{script}");
-    assert_eq!(rt; found.printed.as_slice(), printed.as_bytes(), "{script}");
-    Ok(())
+pub fn expect_replay(rt: &impl Abort, alloc: Global, script: &str, printed: &str) {
+    let end = (0, None, true, printed.as_bytes());
+    expect_end(rt, alloc, &["replay"], script.as_bytes(), end, script);
+}
+
+// Runs each of these scripts, which prints what stands beside it.
+pub fn expect_replays(rt: &impl Abort, alloc: Global, rows: &[(&str, &str)]) {
+    for (script, printed) in rows {
+        expect_replay(rt, alloc, script, printed);
+    }
 }
 
 // Does to an image what the words say, which ends well and writes these bytes.
@@ -67,46 +107,58 @@ pub fn expect_written(
     words: &[&str],
     image: &[u8],
     written: &[u8],
-) -> Result<(), NoMemory> {
-    let found = run(alloc, words, image)?;
-    let well = Ended {
-        status: 0,
-        fault: None,
-        reported: false,
-    };
-    assert_eq!(rt; found.ended, well, "{words:?}");
-    assert_eq!(rt; found.printed.as_slice(), written, "{words:?}");
-    Ok(())
+) {
+    let end = (0, None, false, written);
+    expect_end(rt, alloc, words, image, end, "an image");
 }
 
 // Shows an image, whose tree is this.
-pub fn expect_tree(
-    rt: &impl Abort,
-    alloc: Global,
-    image: &[u8],
-    tree: &str,
-) -> Result<(), NoMemory> {
-    expect_written(rt, alloc, &["show"], image, tree.as_bytes())
+pub fn expect_tree(rt: &impl Abort, alloc: Global, image: &[u8], tree: &str) {
+    expect_written(rt, alloc, &["show"], image, tree.as_bytes());
 }
 
-// This fault ended a run before anything was written.
-pub fn expect_fault(rt: &impl Abort, found: &Outcome, status: u8, fault: TopFault, what: &str) {
-    let ended = Ended {
-        status,
-        fault: Some(fault),
-        reported: false,
-    };
-    assert_eq!(rt; found.ended, ended, "{what}");
-    assert!(rt; found.printed.is_empty(), "{what}");
+// This fault ends the run of these words before anything is written.
+pub fn expect_fault(
+    rt: &impl Abort,
+    alloc: Global,
+    words: &[&str],
+    input: &[u8],
+    (status, fault): (u8, TopFault),
+    what: &str,
+) {
+    let end = (status, Some(fault), false, b"".as_slice());
+    expect_end(rt, alloc, words, input, end, what);
+}
+
+// Each of these scripts is refused, with the line and the kind of the fault.
+pub fn expect_refusals(
+    rt: &impl Abort,
+    alloc: Global,
+    words: &[&str],
+    rows: &[(&str, u32, ScriptKind)],
+) {
+    for (script, line, kind) in rows {
+        let fault = TopFault::Script(*line, *kind);
+        expect_fault(rt, alloc, words, script.as_bytes(), (3, fault), script);
+    }
 }
 
 // The status of these words and this input, where nothing is written and reported; else 0.
-pub fn refused(alloc: Global, list: &[&str], script: &str) -> Result<u8, NoMemory> {
-    let found = run(alloc, list, script.as_bytes())?;
-    if found.ended.reported || !found.printed.is_empty() {
-        return Ok(0);
+fn refused(rt: &impl Abort, alloc: Global, list: &[&str], script: &str) -> u8 {
+    let found = run(rt, alloc, list, script.as_bytes());
+    if found.reported || !found.printed.is_empty() {
+        0
+    } else {
+        found.status
     }
-    Ok(found.ended.status)
+}
+
+// Each of these lists of words has the status beside it, over this script.
+pub fn expect_statuses(rt: &impl Abort, alloc: Global, script: &str, rows: &[(&[&str], u8)]) {
+    for (words, status) in rows {
+        let found = refused(rt, alloc, words, script);
+        assert_eq!(rt; found, *status, "{words:?}");
+    }
 }
 
 // Scripts of block requests, and what they print.
@@ -185,63 +237,70 @@ const SCRIPTS: [(&str, &str); 15] = [
 ];
 
 #[test]
-fn prints_what_requests_leave(rt: HostRuntime) -> Result<(), Fail> {
-    for (script, printed) in SCRIPTS {
-        expect_replay(&rt, rt.alloc(), script, printed)?;
-    }
-    Ok(())
+fn prints_what_requests_leave(rt: HostRuntime) {
+    expect_replays(&rt, rt.alloc(), &SCRIPTS);
+}
+
+// Inputs that are no script, with the line and the kind of the fault.
+const REFUSED: [(&str, u32, ScriptKind); 4] = [
+    ("", 1, ScriptKind::Order),
+    ("device 2\nput 0 11 ordered\n", 3, ScriptKind::Order),
+    (
+        "volume inodes 32 zones 64 journal 128\n",
+        2,
+        ScriptKind::Order,
+    ),
+    ("# one\nblocks 2\nqueue 65\nevents\n", 3, ScriptKind::Number),
+];
+
+#[test]
+fn refuses_what_is_no_script(rt: HostRuntime) {
+    expect_refusals(&rt, rt.alloc(), &["replay"], &REFUSED);
+}
+
+// A script of so many bytes, whose last line is a comment.
+fn script_of_length(alloc: Global, length: usize) -> Result<Vec<u8>, AllocError> {
+    let mut script = b"device 1\nevents\n#".to_vec(alloc)?;
+    script.resize(length, b'#')?;
+    Ok(script)
+}
+
+// Such a script ends so.
+fn expect_length(
+    rt: &impl Abort,
+    alloc: Global,
+    length: usize,
+    end: (u8, Option<TopFault>, bool, &[u8]),
+) {
+    let script = script_of_length(alloc, length).expect(rt, "no memory");
+    expect_end(rt, alloc, &["replay"], &script, end, "a long script");
 }
 
 #[test]
-fn refuses_what_is_no_script(rt: HostRuntime) -> Result<(), Fail> {
+fn refuses_a_script_that_is_too_long(rt: HostRuntime) {
     let alloc = rt.alloc();
-    let rows = [
-        ("", 1, ScriptKind::Order),
-        ("device 2\nput 0 11 ordered\n", 3, ScriptKind::Order),
-        (
-            "volume inodes 32 zones 64 journal 128\n",
-            2,
-            ScriptKind::Order,
-        ),
-        ("# one\nblocks 2\nqueue 65\nevents\n", 3, ScriptKind::Number),
-    ];
-    for (script, line, kind) in rows {
-        let found = run(alloc, &["replay"], script.as_bytes())?;
-        expect_fault(&rt, &found, 3, TopFault::Script(line, kind), script);
-    }
-    Ok(())
-}
-
-#[test]
-fn refuses_a_script_that_is_too_long(rt: HostRuntime) -> Result<(), Fail> {
-    let alloc = rt.alloc();
-    let mut input = b"device 1\nevents\n#".to_vec(alloc)?;
-    input.resize(4_194_304, b'#')?;
-    let found = run(alloc, &["replay"], &input)?;
-    let printed = (found.ended.status, found.printed.as_slice());
-    assert_eq!(rt; printed, (0, b"steps 0\nblock 0 00 -\n".as_slice()));
-    input.push(b'#')?;
-    let found = run(alloc, &["replay"], &input)?;
-    expect_fault(&rt, &found, 7, TopFault::TooLong, "a byte more");
-    Ok(())
+    let most = (0, None, true, b"steps 0\nblock 0 00 -\n".as_slice());
+    expect_length(&rt, alloc, 4_194_304, most);
+    let more = (7, Some(TopFault::TooLong), false, b"".as_slice());
+    expect_length(&rt, alloc, 4_194_305, more);
 }
 
 // The status of `replay` where these reads fail, counted from 1; 0 where anything was written.
-fn status_of_reads(alloc: Global, input: &[u8], fails: &[u64]) -> Result<u8, NoMemory> {
-    let mut source = MemSource::new(input.to_vec(alloc)?, fails.to_vec(alloc)?);
-    let mut sink = MemSink::new(Vec::new(alloc), Vec::new(alloc));
-    let ended = end_of(alloc, &["replay"], &mut source, &mut sink)?;
-    if !sink.bytes().is_empty() {
-        return Ok(0);
+fn status_of_reads(rt: &impl Abort, alloc: Global, input: &[u8], fails: &[u64]) -> u8 {
+    let mut source = source_of(rt, alloc, input, fails);
+    let mut sink = sink_of(rt, alloc, &[]);
+    let ended = end_of(rt, alloc, &["replay"], &mut source, &mut sink);
+    if sink.bytes().is_empty() {
+        ended.status
+    } else {
+        0
     }
-    Ok(ended.status)
 }
 
 // The status over this sink.
-fn status_over<W: Sink>(alloc: Global, out: &mut W) -> Result<u8, NoMemory> {
-    let mut source = MemSource::new(b"device 1\nevents\n".to_vec(alloc)?, Vec::new(alloc));
-    let ended = end_of(alloc, &["replay"], &mut source, out)?;
-    Ok(ended.status)
+fn status_over<W: Sink>(rt: &impl Abort, alloc: Global, out: &mut W) -> u8 {
+    let mut source = source_of(rt, alloc, b"device 1\nevents\n", &[]);
+    end_of(rt, alloc, &["replay"], &mut source, out).status
 }
 
 // A sink that takes nothing.
@@ -264,45 +323,38 @@ impl Sink for Stuck {
 }
 
 #[test]
-fn tells_of_a_source_that_fails(rt: HostRuntime) -> Result<(), Fail> {
-    let alloc = rt.alloc();
-    let script = b"device 1\nevents\n";
+fn tells_of_a_source_that_fails(rt: HostRuntime) {
     for fails in [1, 2] {
-        let status = status_of_reads(alloc, script, &[fails])?;
+        let status = status_of_reads(&rt, rt.alloc(), b"device 1\nevents\n", &[fails]);
         assert_eq!(rt; status, 5, "read {fails}");
     }
-    Ok(())
 }
 
 #[test]
-fn tells_of_a_sink_that_fails(rt: HostRuntime) -> Result<(), Fail> {
+fn tells_of_a_sink_that_fails(rt: HostRuntime) {
     let alloc = rt.alloc();
-    let mut sink = MemSink::new(Vec::new(alloc), [1].to_vec(alloc)?);
-    let status = status_over(alloc, &mut sink)?;
+    let mut sink = sink_of(&rt, alloc, &[1]);
+    let status = status_over(&rt, alloc, &mut sink);
     assert_eq!(rt; (status, sink.bytes().len()), (6, 0));
-    Ok(())
 }
 
 #[test]
-fn tells_of_a_sink_that_takes_nothing(rt: HostRuntime) -> Result<(), Fail> {
+fn tells_of_a_sink_that_takes_nothing(rt: HostRuntime) {
     let mut sink = Stuck { faults: 0 };
-    let status = status_over(rt.alloc(), &mut sink)?;
+    let status = status_over(&rt, rt.alloc(), &mut sink);
     assert_eq!(rt; (status, sink.faults), (6, 1));
-    Ok(())
 }
 
 #[test]
-fn reads_and_writes_plainly(rt: HostRuntime) -> Result<(), Fail> {
+fn reads_and_writes_plainly(rt: HostRuntime) {
     let mut source = PlainSource::new(b"device 1\nevents\n");
-    let ended = end_of(rt.alloc(), &["replay"], &mut source, &mut PlainSink)?;
+    let ended = end_of(&rt, rt.alloc(), &["replay"], &mut source, &mut PlainSink);
     assert_eq!(rt; ended.status, 0);
-    Ok(())
 }
 
-#[test]
-fn knows_the_laws_of_the_model_device(rt: HostRuntime) -> Result<(), Fail> {
-    let alloc = rt.alloc();
-    let image = Image::zeroed(alloc, 2)?;
+// A device of two blocks.
+fn small_device(rt: &impl Abort, alloc: Global) -> EpochDevice {
+    let image = Image::zeroed(alloc, 2).expect(rt, "no image");
     assert!(rt; !image.is_empty());
     let setup = DeviceSetup {
         depth: 1,
@@ -311,9 +363,13 @@ fn knows_the_laws_of_the_model_device(rt: HostRuntime) -> Result<(), Fail> {
         bad_read: None,
         cut_at: None,
     };
-    let device = EpochDevice::make(alloc, image, setup)?;
+    EpochDevice::make(alloc, image, setup).expect(rt, "no device")
+}
+
+#[test]
+fn knows_the_laws_of_the_model_device(rt: HostRuntime) {
+    let device = small_device(&rt, rt.alloc());
     assert_eq!(rt; lawful_blocks(&device), 2);
-    Ok(())
 }
 
 // Faults, and their texts.
@@ -375,10 +431,18 @@ const FAULT_TEXTS: [(TopFault, &str); 19] = [
     ),
 ];
 
-#[test]
-fn prints_the_faults(rt: HostRuntime) -> Result<(), Fail> {
-    for (fault, text) in FAULT_TEXTS {
-        assert_eq!(rt; format!(in rt.alloc(); "{fault}")?.as_str(), text);
+pub fn text_of(rt: &impl Abort, alloc: Global, fault: TopFault) -> String {
+    format!(in alloc; "{fault}").expect(rt, "no memory")
+}
+
+fn expect_texts(rt: &impl Abort, alloc: Global, rows: &[(TopFault, &str)]) {
+    for (fault, text) in rows {
+        let found = text_of(rt, alloc, *fault);
+        assert_eq!(rt; found.as_str(), *text);
     }
-    Ok(())
+}
+
+#[test]
+fn prints_the_faults(rt: HostRuntime) {
+    expect_texts(&rt, rt.alloc(), &FAULT_TEXTS);
 }

@@ -1,9 +1,10 @@
 //! Lists of words beside their statuses, through the top call, and how a process gives them.
-use crate::tests::refused;
+use crate::tests::expect_statuses;
 use barrierfs_top::{InputTask, Task, TopFault, given_words};
+use std::alloc::Global;
 use std::env::FillError;
+use std::process::Abort;
 use std::rt::Env;
-use std::test::Fail;
 
 // Each list of words, and the status where the input is a script of block requests; 0 where something is written.
 const LISTS: [(&[&str], u8); 57] = [
@@ -72,12 +73,8 @@ const LISTS: [(&[&str], u8); 57] = [
 ];
 
 #[test]
-fn takes_just_the_words_of_the_table(rt: HostRuntime) -> Result<(), Fail> {
-    for (words, status) in LISTS {
-        let found = refused(rt.alloc(), words, "device 1\nevents\n")?;
-        assert_eq!(rt; found, status, "{words:?}");
-    }
-    Ok(())
+fn takes_just_the_words_of_the_table(rt: HostRuntime) {
+    expect_statuses(&rt, rt.alloc(), "device 1\nevents\n", &LISTS);
 }
 
 // The words of a process, its name first.
@@ -109,23 +106,33 @@ impl Env for Given {
     }
 }
 
-#[test]
-fn takes_words_that_are_texts(rt: HostRuntime) -> Result<(), Fail> {
-    let replay = Task::Read(InputTask::Replay { raw: false });
-    let rows: [(&'static [u8], Result<Option<Task>, TopFault>); 3] = [
-        (b"replay", Ok(Some(replay))),
-        (b"rep", Ok(None)),
-        (b"repl\xffy", Err(TopFault::BadWords)),
-    ];
+// The task of a process with these words.
+fn task_of(alloc: Global, words: [&'static [u8]; 2]) -> Result<Option<Task>, TopFault> {
+    given_words(&(Given { words }, alloc)).map(|words| words.task())
+}
+
+// A word beside the task that it names.
+const GIVEN: [(&[u8], Result<Option<Task>, TopFault>); 3] = [
+    (
+        b"replay",
+        Ok(Some(Task::Read(InputTask::Replay { raw: false }))),
+    ),
+    (b"rep", Ok(None)),
+    (b"repl\xffy", Err(TopFault::BadWords)),
+];
+
+fn expect_tasks(
+    rt: &impl Abort,
+    alloc: Global,
+    rows: &[(&'static [u8], Result<Option<Task>, TopFault>)],
+) {
     for (word, task) in rows {
-        let given = Given {
-            words: [b"barrierfs", word],
-        };
-        let found = match given_words(&(given, rt.alloc())) {
-            Ok(words) => Ok(words.task()),
-            Err(fault) => Err(fault),
-        };
-        assert_eq!(rt; found, task);
+        let found = task_of(alloc, [b"barrierfs", *word]);
+        assert_eq!(rt; found, *task, "{word:?}");
     }
-    Ok(())
+}
+
+#[test]
+fn takes_words_that_are_texts(rt: HostRuntime) {
+    expect_tasks(&rt, rt.alloc(), &GIVEN);
 }

@@ -1,9 +1,12 @@
 //! Barriers on data, and the versions of pages.
+use crate::tests::expect_replays;
+use std::alloc::Global;
+use std::process::Abort;
 
 // Pages that are written twice, with a barrier between: once the device has what stands before the barrier, the old
 // versions are there, and later the new ones. Then a barrier on data of a file that has none: it waits for the
 // transaction that made the file.
-pub const FIRST_VERSION: &str = "\
+const FIRST_VERSION: &str = "\
 volume inodes 32 zones 64 journal 128
 thread 1
 create /f
@@ -35,7 +38,7 @@ persist 0 x 9
 persist 1
 ";
 
-pub const FIRST_VERSION_PRINTS: &str = "\
+const FIRST_VERSION_PRINTS: &str = "\
 steps 21
 requests 12
 1 create /f: ok
@@ -56,7 +59,7 @@ file /g size 1024 links 1
 block 0 1024xab
 ";
 
-pub const LAST_VERSION: &str = "\
+const LAST_VERSION: &str = "\
 volume inodes 32 zones 64 journal 128
 thread 1
 create /f
@@ -87,7 +90,7 @@ transfer 0 x 12
 persist 0 x 11
 ";
 
-pub const LAST_VERSION_PRINTS: &str = "\
+const LAST_VERSION_PRINTS: &str = "\
 steps 23
 requests 12
 1 create /f: ok
@@ -108,7 +111,7 @@ file /g size 1024 links 1
 block 0 1024xcc
 ";
 
-pub const WAITS: &str = "\
+const WAITS: &str = "\
 volume inodes 32 zones 64 journal 128
 thread 1
 create /f
@@ -117,7 +120,7 @@ events
 call 1 x 3
 ";
 
-pub const WAITS_PRINTS: &str = "\
+const WAITS_PRINTS: &str = "\
 steps 0
 requests 0
 1 create /f: ok
@@ -126,3 +129,14 @@ closed 0
 found 0
 dir /
 ";
+
+const ROWS: [(&str, &str); 3] = [
+    (FIRST_VERSION, FIRST_VERSION_PRINTS),
+    (LAST_VERSION, LAST_VERSION_PRINTS),
+    (WAITS, WAITS_PRINTS),
+];
+
+// Each script of these rows prints what stands beside it.
+pub fn expect_rows(rt: &impl Abort, alloc: Global) {
+    expect_replays(rt, alloc, &ROWS);
+}

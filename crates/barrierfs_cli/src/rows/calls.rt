@@ -1,13 +1,13 @@
 //! Replies of calls, and scripts that are refused.
-use crate::tests::{expect_fault, run};
-use barrierfs_top::TopFault;
+use crate::tests::{expect_refusals, expect_replays};
 use script_grammar::ScriptKind;
-use std::test::Fail;
+use std::alloc::Global;
+use std::process::Abort;
 
 // Replies of calls that need no device: the last block of a file, names and kinds, a queue, a session and a
 // transaction that are full. The two ends of the last: the eleventh directory waits, and is made once the transaction
 // is closed.
-pub const LAST_BLOCK: &str = "\
+const LAST_BLOCK: &str = "\
 volume inodes 32 zones 64 journal 128
 thread 1
 create /f
@@ -18,7 +18,7 @@ events
 call 1 x 4
 ";
 
-pub const LAST_BLOCK_PRINTS: &str = "\
+const LAST_BLOCK_PRINTS: &str = "\
 steps 0
 requests 0
 1 create /f: ok
@@ -31,7 +31,7 @@ found 0
 dir /
 ";
 
-pub const NAMES: &str = "\
+const NAMES: &str = "\
 volume inodes 32 zones 64 journal 128
 thread 1
 mkdir /a
@@ -69,7 +69,7 @@ call 1
 call 1
 ";
 
-pub const NAMES_PRINTS: &str = "\
+const NAMES_PRINTS: &str = "\
 steps 0
 requests 0
 1 mkdir /a: ok
@@ -95,7 +95,7 @@ dir /
 ";
 
 // A name that is too long by one byte for a volume of the default width.
-pub const LONG_NAME: &str = "\
+const LONG_NAME: &str = "\
 volume inodes 32 zones 64 journal 128 names 30
 thread 1
 create /abcdefghijklmno
@@ -104,7 +104,7 @@ events
 round 100
 ";
 
-pub const LONG_NAME_PRINTS: &str = "\
+const LONG_NAME_PRINTS: &str = "\
 steps 13
 requests 7
 1 create /abcdefghijklmno: ok
@@ -117,7 +117,7 @@ file /abcdefghijklmno size 0 links 1
 ";
 
 // A second name that moves, once the first one is gone.
-pub const LINKS: &str = "\
+const LINKS: &str = "\
 volume inodes 32 zones 64 journal 128
 thread 1
 create /a
@@ -129,7 +129,7 @@ events
 call 1 x 5
 ";
 
-pub const LINKS_PRINTS: &str = "\
+const LINKS_PRINTS: &str = "\
 steps 0
 requests 0
 1 create /a: ok
@@ -144,7 +144,7 @@ dir /
 ";
 
 // Refusals of each call, the first one told where two would do.
-pub const REFUSALS: &str = "\
+const REFUSALS: &str = "\
 volume inodes 32 zones 64 journal 128
 thread 1
 mkdir /d
@@ -193,7 +193,7 @@ events
 call 1 x 42
 ";
 
-pub const REFUSALS_PRINTS: &str = "\
+const REFUSALS_PRINTS: &str = "\
 steps 0
 requests 0
 1 mkdir /d: ok
@@ -246,7 +246,7 @@ dir /
 
 // Renames that are refused, the first cause told where two would do, and renames: of one name to itself, over a file, into a
 // directory, and of a directory.
-pub const RENAMES: &str = "\
+const RENAMES: &str = "\
 volume inodes 32 zones 64 journal 128
 thread 1
 mkdir /d
@@ -281,7 +281,7 @@ events
 call 1 x 28
 ";
 
-pub const RENAMES_PRINTS: &str = "\
+const RENAMES_PRINTS: &str = "\
 steps 0
 requests 0
 1 mkdir /d: ok
@@ -318,7 +318,7 @@ found 0
 dir /
 ";
 
-pub const FULL_QUEUE: &str = "\
+const FULL_QUEUE: &str = "\
 volume inodes 32 zones 64 journal 128
 queue 1
 thread 1
@@ -329,7 +329,7 @@ events
 call 1 x 5
 ";
 
-pub const FULL_QUEUE_PRINTS: &str = "\
+const FULL_QUEUE_PRINTS: &str = "\
 steps 0
 requests 1
 1 create /f: ok
@@ -340,7 +340,7 @@ found 0
 dir /
 ";
 
-pub const FULL_SESSION: &str = "\
+const FULL_SESSION: &str = "\
 volume inodes 32 zones 64 journal 128
 limit 1
 thread 1
@@ -351,7 +351,7 @@ events
 call 1 x 5
 ";
 
-pub const FULL_SESSION_PRINTS: &str = "\
+const FULL_SESSION_PRINTS: &str = "\
 steps 0
 requests 1
 1 create /f: ok
@@ -363,7 +363,7 @@ found 0
 dir /
 ";
 
-pub const FULL_TRANSACTION: &str = "\
+const FULL_TRANSACTION: &str = "\
 volume inodes 32 zones 64 journal 128
 thread 1
 mkdir /a
@@ -381,7 +381,7 @@ events
 call 1 x 11
 ";
 
-pub const FULL_TRANSACTION_PRINTS: &str = "\
+const FULL_TRANSACTION_PRINTS: &str = "\
 steps 0
 requests 0
 1 mkdir /a: ok
@@ -400,7 +400,7 @@ found 0
 dir /
 ";
 
-pub const NEXT_TRANSACTION: &str = "\
+const NEXT_TRANSACTION: &str = "\
 volume inodes 32 zones 64 journal 128
 thread 1
 mkdir /a
@@ -420,7 +420,7 @@ commit x 19
 call 1
 ";
 
-pub const NEXT_TRANSACTION_PRINTS: &str = "\
+const NEXT_TRANSACTION_PRINTS: &str = "\
 steps 0
 requests 17
 1 mkdir /a: ok
@@ -439,6 +439,24 @@ closed 1
 found 0
 dir /
 ";
+
+const ROWS: [(&str, &str); 10] = [
+    (LAST_BLOCK, LAST_BLOCK_PRINTS),
+    (NAMES, NAMES_PRINTS),
+    (LONG_NAME, LONG_NAME_PRINTS),
+    (LINKS, LINKS_PRINTS),
+    (REFUSALS, REFUSALS_PRINTS),
+    (RENAMES, RENAMES_PRINTS),
+    (FULL_QUEUE, FULL_QUEUE_PRINTS),
+    (FULL_SESSION, FULL_SESSION_PRINTS),
+    (FULL_TRANSACTION, FULL_TRANSACTION_PRINTS),
+    (NEXT_TRANSACTION, NEXT_TRANSACTION_PRINTS),
+];
+
+// Each script of these rows prints what stands beside it.
+pub fn expect_rows(rt: &impl Abort, alloc: Global) {
+    expect_replays(rt, alloc, &ROWS);
+}
 
 // Scripts that are refused, with the line and the kind of their fault.
 const REFUSED: [(&str, u32, ScriptKind); 8] = [
@@ -485,10 +503,6 @@ const REFUSED: [(&str, u32, ScriptKind); 8] = [
 ];
 
 #[test]
-fn refuses_what_is_no_volume_script(rt: HostRuntime) -> Result<(), Fail> {
-    for (script, line, kind) in REFUSED {
-        let found = run(rt.alloc(), &["replay"], script.as_bytes())?;
-        expect_fault(&rt, &found, 3, TopFault::Script(line, kind), script);
-    }
-    Ok(())
+fn refuses_what_is_no_volume_script(rt: HostRuntime) {
+    expect_refusals(&rt, rt.alloc(), &["replay"], &REFUSED);
 }

@@ -1,10 +1,11 @@
 //! Commits of transactions, and what a power cut leaves of them.
-use crate::tests::expect_replay;
-use std::test::Fail;
+use crate::tests::{expect_replay, expect_replays};
+use std::alloc::{AllocError, Global};
+use std::process::Abort;
 
 // A barrier that waits for no device: the tree is there only once the last block of its transaction is on the medium.
 // Then two transactions that change one block: the second waits for the first.
-pub const SUBMITTED: &str = "\
+const SUBMITTED: &str = "\
 volume inodes 32 zones 64 journal 128
 thread 1
 mkdir /a
@@ -17,7 +18,7 @@ commit x 10
 call 1
 ";
 
-pub const SUBMITTED_PRINTS: &str = "\
+const SUBMITTED_PRINTS: &str = "\
 steps 0
 requests 9
 1 mkdir /a: ok
@@ -30,7 +31,7 @@ found 0
 dir /
 ";
 
-pub const PERSISTED: &str = "\
+const PERSISTED: &str = "\
 volume inodes 32 zones 64 journal 128
 thread 1
 mkdir /a
@@ -50,7 +51,7 @@ transfer 0 x 9
 persist 0 x 9
 ";
 
-pub const PERSISTED_PRINTS: &str = "\
+const PERSISTED_PRINTS: &str = "\
 steps 18
 requests 9
 1 mkdir /a: ok
@@ -66,7 +67,7 @@ file /a/f size 3 links 1
 block 0 3x61
 ";
 
-pub const ALL_BUT_ONE: &str = "\
+const ALL_BUT_ONE: &str = "\
 volume inodes 32 zones 64 journal 128
 thread 1
 mkdir /a
@@ -86,7 +87,7 @@ transfer 0 x 9
 persist 0 x 8
 ";
 
-pub const ALL_BUT_ONE_PRINTS: &str = "\
+const ALL_BUT_ONE_PRINTS: &str = "\
 steps 17
 requests 9
 1 mkdir /a: ok
@@ -99,7 +100,7 @@ found 0
 dir /
 ";
 
-pub const CONFLICT: &str = "\
+const CONFLICT: &str = "\
 volume inodes 32 zones 64 journal 128
 thread 1
 mkdir /a
@@ -113,7 +114,7 @@ call 1 x 4
 commit x 5
 ";
 
-pub const CONFLICT_PRINTS: &str = "\
+const CONFLICT_PRINTS: &str = "\
 steps 0
 requests 8
 1 mkdir /a: ok
@@ -125,7 +126,7 @@ found 0
 dir /
 ";
 
-pub const CONFLICT_ENDS: &str = "\
+const CONFLICT_ENDS: &str = "\
 volume inodes 32 zones 64 journal 128
 thread 1
 mkdir /a
@@ -141,7 +142,7 @@ back 100
 call 1
 ";
 
-pub const CONFLICT_ENDS_PRINTS: &str = "\
+const CONFLICT_ENDS_PRINTS: &str = "\
 steps 30
 requests 15
 1 mkdir /a: ok
@@ -155,6 +156,19 @@ dir /
 dir /a
 dir /b
 ";
+
+const ROWS: [(&str, &str); 5] = [
+    (SUBMITTED, SUBMITTED_PRINTS),
+    (PERSISTED, PERSISTED_PRINTS),
+    (ALL_BUT_ONE, ALL_BUT_ONE_PRINTS),
+    (CONFLICT, CONFLICT_PRINTS),
+    (CONFLICT_ENDS, CONFLICT_ENDS_PRINTS),
+];
+
+// Each script of these rows prints what stands beside it.
+pub fn expect_rows(rt: &impl Abort, alloc: Global) {
+    expect_replays(rt, alloc, &ROWS);
+}
 
 const AFTER_THE_FIRST_LINE: &str = "\
 thread 1
@@ -198,17 +212,23 @@ file /a/f size 3 links 1
 block 0 3x61
 ";
 
-// The commit of one transaction, with the power cut after each of its 18 steps: its tree is there whole, or not at all.
+// The commit of one transaction, with the power cut after so many of its 18 steps.
+fn cut_at(alloc: Global, cut: u32) -> Result<String, AllocError> {
+    format!(in alloc; "volume inodes 32 zones 64 journal 128\ncut {cut}\n{AFTER_THE_FIRST_LINE}")
+}
+
+// Its tree is there whole, or not at all.
+fn cut_prints(alloc: Global, cut: u32) -> Result<String, AllocError> {
+    let tree = if cut < 18 { BEFORE } else { AFTER };
+    format!(in alloc; "steps {cut}\n{REPLIES}{tree}")
+}
+
 #[test]
-fn leaves_all_of_a_transaction_or_nothing(rt: HostRuntime) -> Result<(), Fail> {
+fn leaves_all_of_a_transaction_or_nothing(rt: HostRuntime) {
     let alloc = rt.alloc();
     for cut in 0..19_u32 {
-        let script = format!(in alloc;
-            "volume inodes 32 zones 64 journal 128\ncut {cut}\n{AFTER_THE_FIRST_LINE}"
-        )?;
-        let tree = if cut < 18 { BEFORE } else { AFTER };
-        let printed = format!(in alloc; "steps {cut}\n{REPLIES}{tree}")?;
-        expect_replay(&rt, alloc, script.as_str(), printed.as_str())?;
+        let script = cut_at(alloc, cut).expect(&rt, "no memory");
+        let printed = cut_prints(alloc, cut).expect(&rt, "no memory");
+        expect_replay(&rt, alloc, &script, &printed);
     }
-    Ok(())
 }

@@ -1,7 +1,10 @@
 //! Devices that fail a request.
+use crate::tests::expect_replays;
+use std::alloc::Global;
+use std::process::Abort;
 
 // The first request that is transferred fails: the page. The host hears of it in the next round, and submits nothing more.
-pub const FIRST_REQUEST: &str = "\
+const FIRST_REQUEST: &str = "\
 volume inodes 32 zones 64 journal 128
 fail 1
 thread 1
@@ -13,7 +16,7 @@ events
 round 100
 ";
 
-pub const FIRST_REQUEST_PRINTS: &str = "\
+const FIRST_REQUEST_PRINTS: &str = "\
 steps 1
 requests 1
 1 mkdir /a: ok
@@ -27,7 +30,7 @@ dir /
 ";
 
 // The flush fails, with all before it on the medium: the transaction is there, and the call that asked for it does not know.
-pub const FLUSH: &str = "\
+const FLUSH: &str = "\
 volume inodes 32 zones 64 journal 128
 fail 10
 thread 1
@@ -39,7 +42,7 @@ events
 round 100
 ";
 
-pub const FLUSH_PRINTS: &str = "\
+const FLUSH_PRINTS: &str = "\
 steps 19
 requests 10
 1 mkdir /a: ok
@@ -57,7 +60,7 @@ block 0 3x61
 
 // Two requests are transferred and persisted, the third fails. Request 3, which was submitted before the host heard of it, gets
 // nowhere. Behind the failure each call that does not only read ends so.
-pub const THIRD_REQUEST: &str = "\
+const THIRD_REQUEST: &str = "\
 volume inodes 32 zones 64 journal 128
 fail 3
 thread 1
@@ -69,7 +72,7 @@ events
 round 100
 ";
 
-pub const THIRD_REQUEST_PRINTS: &str = "\
+const THIRD_REQUEST_PRINTS: &str = "\
 steps 5
 requests 4
 1 create /f: ok
@@ -83,7 +86,7 @@ dir /
 ";
 
 // A call that only reads is answered behind a failure, by what the host has in memory.
-pub const READS_ON: &str = "\
+const READS_ON: &str = "\
 volume inodes 32 zones 64 journal 128
 fail 1
 thread 1
@@ -97,7 +100,7 @@ events
 round 100
 ";
 
-pub const READS_ON_PRINTS: &str = "\
+const READS_ON_PRINTS: &str = "\
 steps 1
 requests 1
 1 create /f: ok
@@ -113,7 +116,7 @@ dir /
 ";
 
 // The power goes off at the step of the failure. The host hears of the failure first, and then of the power.
-pub const FAILS_AND_GOES_OFF: &str = "\
+const FAILS_AND_GOES_OFF: &str = "\
 volume inodes 32 zones 64 journal 128
 cut 1
 fail 1
@@ -137,7 +140,7 @@ flush
 call 1 x 2
 ";
 
-pub const FAILS_AND_GOES_OFF_PRINTS: &str = "\
+const FAILS_AND_GOES_OFF_PRINTS: &str = "\
 steps 1
 requests 1
 1 create /f: ok
@@ -152,7 +155,7 @@ dir /
 ";
 
 // The flash log fails too: the flush, once nine puts were moved, programmed and folded.
-pub const FLASH_FLUSH: &str = "\
+const FLASH_FLUSH: &str = "\
 volume inodes 32 zones 64 journal 128
 flash 3
 fail 10
@@ -165,7 +168,7 @@ events
 round 100
 ";
 
-pub const FLASH_FLUSH_PRINTS: &str = "\
+const FLASH_FLUSH_PRINTS: &str = "\
 steps 28
 requests 10
 1 mkdir /a: ok
@@ -180,3 +183,17 @@ dir /a
 file /a/f size 3 links 1
 block 0 3x61
 ";
+
+const ROWS: [(&str, &str); 6] = [
+    (FIRST_REQUEST, FIRST_REQUEST_PRINTS),
+    (THIRD_REQUEST, THIRD_REQUEST_PRINTS),
+    (FLUSH, FLUSH_PRINTS),
+    (FLASH_FLUSH, FLASH_FLUSH_PRINTS),
+    (READS_ON, READS_ON_PRINTS),
+    (FAILS_AND_GOES_OFF, FAILS_AND_GOES_OFF_PRINTS),
+];
+
+// Each script of these rows prints what stands beside it.
+pub fn expect_rows(rt: &impl Abort, alloc: Global) {
+    expect_replays(rt, alloc, &ROWS);
+}

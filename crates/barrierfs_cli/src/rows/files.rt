@@ -1,12 +1,12 @@
 //! Files over all kinds of zones, volumes that are full, and directories that are large.
-use crate::tests::expect_replay;
+use crate::tests::{expect_replay, expect_replays};
 use std::alloc::{AllocError, Global};
-use std::test::Fail;
+use std::process::Abort;
 
 // A volume of 4 inodes and 58 zones of data. Files take all of either, are refused the next, and go again; then one file
 // has all the zones. What was freed is taken again only once its transaction has its commit block in the queue: the
 // transactions are 8 requests, of them a superblock and a revoke, and 7, and then comes the flush.
-pub const FULL_VOLUME: &str = "\
+const FULL_VOLUME: &str = "\
 volume inodes 4 zones 64 journal 128
 thread 1
 create /a
@@ -31,7 +31,7 @@ events
 round 2000
 ";
 
-pub const FULL_VOLUME_PRINTS: &str = "\
+const FULL_VOLUME_PRINTS: &str = "\
 steps 31
 requests 16
 1 create /a: ok
@@ -61,7 +61,7 @@ dir /
 // A file with holes whose blocks stand in the inode, in its indirect zone and in two groups of its doubly indirect one, of
 // which a cut frees the second; cuts within a block, upwards and to nothing. The transaction has five pages, and the log a
 // superblock, a revoke, a descriptor, seven bodies and the commit block.
-pub const HOLES: &str = "\
+const HOLES: &str = "\
 volume inodes 32 zones 64 journal 128
 thread 1
 create /f
@@ -80,7 +80,7 @@ events
 round 200
 ";
 
-pub const HOLES_PRINTS: &str = "\
+const HOLES_PRINTS: &str = "\
 steps 33
 requests 17
 1 create /f: ok
@@ -106,6 +106,13 @@ block 7 832x61+192x00
 block 518 568x00+456x62
 block 519 44x62+500x00
 ";
+
+const ROWS: [(&str, &str); 2] = [(FULL_VOLUME, FULL_VOLUME_PRINTS), (HOLES, HOLES_PRINTS)];
+
+// Each script of these rows prints what stands beside it.
+pub fn expect_rows(rt: &impl Abort, alloc: Global) {
+    expect_replays(rt, alloc, &ROWS);
+}
 
 // A line for each number below this one, between two texts.
 fn numbered(alloc: Global, count: u32, front: &str, back: &str) -> Result<String, AllocError> {
@@ -160,26 +167,34 @@ dir /
 
 // With 450 names it has 452 slots of 16 bytes: seven blocks, and one more behind the indirect zone.
 #[test]
-fn directories_pass_their_direct_zones(rt: HostRuntime) -> Result<(), Fail> {
+fn directories_pass_their_direct_zones(rt: HostRuntime) {
     let alloc = rt.alloc();
-    let script = crowded(alloc, 450)?;
-    let printed = crowded_prints(alloc, 450, 7232)?;
-    expect_replay(&rt, alloc, script.as_str(), printed.as_str())?;
-    Ok(())
+    let script = crowded(alloc, 450).expect(&rt, "no memory");
+    let printed = crowded_prints(alloc, 450, 7232).expect(&rt, "no memory");
+    expect_replay(&rt, alloc, &script, &printed);
+}
+
+// A directory gets so many others, and one more.
+fn linked(alloc: Global, count: u32) -> Result<String, AllocError> {
+    let mkdirs = numbered(alloc, count, "mkdir /d/", "")?;
+    format!(in alloc;
+        "volume inodes 512 zones 1024 journal 2048\nthread 1\nmkdir /d\n{mkdirs}mkdir /d/{count}\nevents\ncall 1 x 250\n"
+    )
+}
+
+// What it prints, where the last is one too many.
+fn linked_prints(alloc: Global, count: u32) -> Result<String, AllocError> {
+    let replies = numbered(alloc, count, "1 mkdir /d/", ": ok")?;
+    format!(in alloc;
+        "steps 0\nrequests 0\n1 mkdir /d: ok\n{replies}1 mkdir /d/{count}: too many links\nthread 1: 250 of 250\nclosed 0\nfound 0\ndir /\n"
+    )
 }
 
 // A directory has two links and one for each directory in it, and no more than 250.
 #[test]
-fn directories_have_so_many_links(rt: HostRuntime) -> Result<(), Fail> {
+fn directories_have_so_many_links(rt: HostRuntime) {
     let alloc = rt.alloc();
-    let mkdirs = numbered(alloc, 248, "mkdir /d/", "")?;
-    let script = format!(in alloc;
-        "volume inodes 512 zones 1024 journal 2048\nthread 1\nmkdir /d\n{mkdirs}mkdir /d/248\nevents\ncall 1 x 250\n"
-    )?;
-    let replies = numbered(alloc, 248, "1 mkdir /d/", ": ok")?;
-    let printed = format!(in alloc;
-        "steps 0\nrequests 0\n1 mkdir /d: ok\n{replies}1 mkdir /d/248: too many links\nthread 1: 250 of 250\nclosed 0\nfound 0\ndir /\n"
-    )?;
-    expect_replay(&rt, alloc, script.as_str(), printed.as_str())?;
-    Ok(())
+    let script = linked(alloc, 248).expect(&rt, "no memory");
+    let printed = linked_prints(alloc, 248).expect(&rt, "no memory");
+    expect_replay(&rt, alloc, &script, &printed);
 }

@@ -1,12 +1,12 @@
 //! Space that is used again: zones of files, and blocks of the log.
-use crate::tests::expect_replay;
+use crate::tests::{expect_replay, expect_replays};
 use blk_base::NoMemory;
 use std::alloc::Global;
-use std::test::Fail;
+use std::process::Abort;
 
 // A zone that was freed is taken again only once the transaction that freed it has its commit block in the queue; a
 // block that was logged, freed and taken for data is not written over by its old copy in the log.
-pub const FREED: &str = "\
+const FREED: &str = "\
 volume inodes 32 zones 7 journal 128
 thread 1
 create /a
@@ -34,7 +34,7 @@ persist 0 x 5
 persist 1
 ";
 
-pub const FREED_PRINTS: &str = "\
+const FREED_PRINTS: &str = "\
 steps 29
 requests 16
 1 create /a: ok
@@ -52,7 +52,7 @@ block 0 1024xaa
 file /b size 0 links 1
 ";
 
-pub const WAITS: &str = "\
+const WAITS: &str = "\
 volume inodes 32 zones 7 journal 128
 thread 1
 create /a
@@ -67,7 +67,7 @@ back 100
 call 1 x 3
 ";
 
-pub const WAITS_PRINTS: &str = "\
+const WAITS_PRINTS: &str = "\
 steps 17
 requests 9
 1 create /a: ok
@@ -84,7 +84,7 @@ block 0 1024xaa
 file /b size 0 links 1
 ";
 
-pub const REVOKED: &str = "\
+const REVOKED: &str = "\
 volume inodes 32 zones 7 journal 128
 thread 1
 mkdir /d
@@ -98,7 +98,7 @@ round 200
 ";
 
 // The same in a journal whose block numbers have 64 bits.
-pub const REVOKED_WIDE: &str = "\
+const REVOKED_WIDE: &str = "\
 volume inodes 32 zones 7 journal 128 tags 64
 thread 1
 mkdir /d
@@ -111,7 +111,7 @@ events
 round 200
 ";
 
-pub const REVOKED_PRINTS: &str = "\
+const REVOKED_PRINTS: &str = "\
 steps 42
 requests 22
 1 mkdir /d: ok
@@ -127,6 +127,18 @@ dir /
 file /f size 1024 links 1
 block 0 1024xee
 ";
+
+const ROWS: [(&str, &str); 4] = [
+    (FREED, FREED_PRINTS),
+    (WAITS, WAITS_PRINTS),
+    (REVOKED, REVOKED_PRINTS),
+    (REVOKED_WIDE, REVOKED_PRINTS),
+];
+
+// Each script of these rows prints what stands beside it.
+pub fn expect_rows(rt: &impl Abort, alloc: Global) {
+    expect_replays(rt, alloc, &ROWS);
+}
 
 // A file of a hundred blocks, with a barrier behind each.
 fn wrapping(alloc: Global, header: &str) -> Result<String, NoMemory> {
@@ -164,12 +176,11 @@ fn wrapped(alloc: Global, steps: u32) -> Result<String, NoMemory> {
 // checkpoints, behind 26, 51 and 76 transactions, of 5, 3 and 3 blocks that go home and a superblock each. A flash log takes
 // three steps for each of them, the model device two.
 #[test]
-fn wraps_the_log(rt: HostRuntime) -> Result<(), Fail> {
+fn wraps_the_log(rt: HostRuntime) {
     let alloc = rt.alloc();
     for (header, steps) in [("", 1220), ("elevator\n", 1220), ("flash 3\n", 1830)] {
-        let script = wrapping(alloc, header)?;
-        let printed = wrapped(alloc, steps)?;
-        expect_replay(&rt, alloc, script.as_str(), printed.as_str())?;
+        let script = wrapping(alloc, header).expect(&rt, "no memory");
+        let printed = wrapped(alloc, steps).expect(&rt, "no memory");
+        expect_replay(&rt, alloc, &script, &printed);
     }
-    Ok(())
 }

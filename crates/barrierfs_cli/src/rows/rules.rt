@@ -1,8 +1,11 @@
 //! Scripts that tell a rule from one that is nearly it. What they print is by the second program of examples/outside.
+use crate::tests::expect_replays;
+use std::alloc::Global;
+use std::process::Abort;
 
 // A write over the front of a longer file keeps its size. What was cut reads as zeros when the file grows again. A directory
 // that goes takes a link of its parent. Two names of one file stay where one is renamed to the other.
-pub const SIZES: &str = "\
+const SIZES: &str = "\
 volume inodes 32 zones 40 journal 128
 thread 1
 create /f
@@ -23,7 +26,7 @@ events
 call 1 x 20
 ";
 
-pub const SIZES_PRINTS: &str = "\
+const SIZES_PRINTS: &str = "\
 steps 0
 requests 0
 1 create /f: ok
@@ -47,7 +50,7 @@ dir /
 ";
 
 // A block behind 519 blocks needs three zones, its own and two of numbers; the one before it two.
-pub const NUMBERS: &str = "\
+const NUMBERS: &str = "\
 volume inodes 32 zones 8 journal 128
 thread 1
 create /f
@@ -57,7 +60,7 @@ events
 call 1 x 20
 ";
 
-pub const NUMBERS_PRINTS: &str = "\
+const NUMBERS_PRINTS: &str = "\
 steps 0
 requests 0
 1 create /f: ok
@@ -71,7 +74,7 @@ dir /
 
 // With names of 30 bytes a block has 32 slots of 32 bytes. A rename in a full directory needs no room; one name more takes the
 // last zone.
-pub const LONG_SLOTS: &str = "\
+const LONG_SLOTS: &str = "\
 volume inodes 64 zones 9 journal 128 names 30
 thread 1
 mkdir /d
@@ -112,7 +115,7 @@ events
 call 1 x 50
 ";
 
-pub const LONG_SLOTS_PRINTS: &str = "\
+const LONG_SLOTS_PRINTS: &str = "\
 steps 0
 requests 0
 1 mkdir /d: ok
@@ -156,7 +159,7 @@ dir /
 ";
 
 // A call that changes the size alone changes the file, so `fdatasync` waits for a transaction; one more link does not.
-pub const SIZE_ALONE: &str = "\
+const SIZE_ALONE: &str = "\
 volume inodes 32 zones 40 journal 128
 thread 1
 create /f
@@ -171,7 +174,7 @@ call 1 x 3
 round 60
 ";
 
-pub const SIZE_ALONE_PRINTS: &str = "\
+const SIZE_ALONE_PRINTS: &str = "\
 steps 26
 requests 14
 1 create /f: ok
@@ -190,7 +193,7 @@ block 0 10x61+10x00
 ";
 
 // Without a line `depth` the device has room for 32 commands.
-pub const DEFAULT_DEPTH: &str = "\
+const DEFAULT_DEPTH: &str = "\
 device 40
 put 0 11 free
 put 1 11 free
@@ -231,7 +234,7 @@ receive x 34
 transfer 0 x 40
 ";
 
-pub const DEFAULT_DEPTH_PRINTS: &str = "\
+const DEFAULT_DEPTH_PRINTS: &str = "\
 steps 32
 block 0 00 -
 block 1 00 -
@@ -276,7 +279,7 @@ block 39 00 -
 ";
 
 // Without a line `queue` each queue has 32 places.
-pub const DEFAULT_QUEUE: &str = "\
+const DEFAULT_QUEUE: &str = "\
 blocks 40
 put 0 11 free
 put 1 11 free
@@ -320,7 +323,7 @@ receive x 40
 transfer 0 x 40
 ";
 
-pub const DEFAULT_QUEUE_PRINTS: &str = "\
+const DEFAULT_QUEUE_PRINTS: &str = "\
 steps 32
 block 0 00 -
 block 1 00 -
@@ -365,7 +368,7 @@ block 39 00 -
 ";
 
 // A flush leaves the elevator where it is.
-pub const FLUSH_HEAD: &str = "\
+const FLUSH_HEAD: &str = "\
 blocks 40
 elevator
 put 20 11 ordered
@@ -387,7 +390,7 @@ transfer 0
 persist 0
 ";
 
-pub const FLUSH_HEAD_PRINTS: &str = "\
+const FLUSH_HEAD_PRINTS: &str = "\
 steps 5
 block 0 00 -
 block 1 00 -
@@ -430,3 +433,18 @@ block 37 00 -
 block 38 00 -
 block 39 00 -
 ";
+
+const ROWS: [(&str, &str); 7] = [
+    (SIZES, SIZES_PRINTS),
+    (NUMBERS, NUMBERS_PRINTS),
+    (LONG_SLOTS, LONG_SLOTS_PRINTS),
+    (SIZE_ALONE, SIZE_ALONE_PRINTS),
+    (DEFAULT_DEPTH, DEFAULT_DEPTH_PRINTS),
+    (DEFAULT_QUEUE, DEFAULT_QUEUE_PRINTS),
+    (FLUSH_HEAD, FLUSH_HEAD_PRINTS),
+];
+
+// Each script of these rows prints what stands beside it.
+pub fn expect_rows(rt: &impl Abort, alloc: Global) {
+    expect_replays(rt, alloc, &ROWS);
+}

@@ -1,10 +1,10 @@
 //! Calls that wait for the medium, and recovery.
-use crate::tests::expect_replay;
+use crate::tests::{expect_replay, expect_replays};
 use std::alloc::{AllocError, Global};
-use std::test::Fail;
+use std::process::Abort;
 
 // A file that is synced is there; power that is off at once.
-pub const SYNC: &str = "\
+const SYNC: &str = "\
 volume inodes 32 zones 64 journal 128
 thread 1
 mkdir /a
@@ -15,7 +15,7 @@ events
 round 100
 ";
 
-pub const SYNC_PRINTS: &str = "\
+const SYNC_PRINTS: &str = "\
 steps 19
 requests 10
 1 mkdir /a: ok
@@ -32,7 +32,7 @@ block 0 3x61
 ";
 
 // The same on a flash log: nine puts that are moved, programmed and folded, and a flush.
-pub const FLASH: &str = "\
+const FLASH: &str = "\
 volume inodes 32 zones 64 journal 128
 flash 3
 thread 1
@@ -44,7 +44,7 @@ events
 round 100
 ";
 
-pub const FLASH_PRINTS: &str = "\
+const FLASH_PRINTS: &str = "\
 steps 28
 requests 10
 1 mkdir /a: ok
@@ -60,7 +60,7 @@ file /a/f size 3 links 1
 block 0 3x61
 ";
 
-pub const DOWN: &str = "\
+const DOWN: &str = "\
 volume inodes 32 zones 64 journal 128
 cut 0
 thread 1
@@ -70,7 +70,7 @@ events
 round 50
 ";
 
-pub const DOWN_PRINTS: &str = "\
+const DOWN_PRINTS: &str = "\
 steps 0
 requests 0
 1 mkdir /a: ok
@@ -81,8 +81,19 @@ found 0
 dir /
 ";
 
+const ROWS: [(&str, &str); 3] = [
+    (SYNC, SYNC_PRINTS),
+    (FLASH, FLASH_PRINTS),
+    (DOWN, DOWN_PRINTS),
+];
+
+// Each script of these rows prints what stands beside it.
+pub fn expect_rows(rt: &impl Abort, alloc: Global) {
+    expect_replays(rt, alloc, &ROWS);
+}
+
 // That script, cut after so many steps.
-fn cut_at(alloc: Global, steps: u32) -> Result<String, AllocError> {
+fn cut_at(alloc: Global, steps: usize) -> Result<String, AllocError> {
     format!(in alloc;
         "\
 volume inodes 32 zones 64 journal 128
@@ -102,7 +113,7 @@ recover t0 t0 p1
 
 // What it prints. A request goes out a round and takes two steps of the device in it, the flush one: the page, then the
 // superblock, the descriptor, five bodies, the commit block, and the flush. The host submits on until it hears of the cut.
-fn cut_prints(alloc: Global, steps: u32, requests: u32) -> Result<String, AllocError> {
+fn cut_prints(alloc: Global, steps: usize, requests: u32) -> Result<String, AllocError> {
     let (written, closed) = if steps == 0 {
         ("down", 0)
     } else {
@@ -128,49 +139,54 @@ closed {closed}
     )
 }
 
+// How many requests were submitted where the power goes off after so many steps: none, one, and so on.
+const SUBMITTED: [u32; 20] = [
+    0, 1, 1, 4, 4, 5, 5, 6, 6, 7, 7, 8, 8, 9, 9, 9, 9, 10, 10, 10,
+];
+
 // Wherever the power goes off, all of the transaction is there or nothing of it, and all once the call was answered.
 #[test]
-fn keeps_what_was_answered(rt: HostRuntime) -> Result<(), Fail> {
+fn keeps_what_was_answered(rt: HostRuntime) {
     let alloc = rt.alloc();
-    let requests = [
-        0, 1, 1, 4, 4, 5, 5, 6, 6, 7, 7, 8, 8, 9, 9, 9, 9, 10, 10, 10,
-    ];
-    let mut steps = 0_u32;
-    for submitted in requests {
-        let script = cut_at(alloc, steps)?;
-        let printed = cut_prints(alloc, steps, submitted)?;
-        expect_replay(&rt, alloc, script.as_str(), printed.as_str())?;
-        steps = steps.saturating_add(1);
+    for (steps, submitted) in SUBMITTED.iter().enumerate() {
+        let script = cut_at(alloc, steps).expect(&rt, "no memory");
+        let printed = cut_prints(alloc, steps, *submitted).expect(&rt, "no memory");
+        expect_replay(&rt, alloc, &script, &printed);
     }
-    Ok(())
 }
 
 // The log of that file is recovered by two attempts that are cut after so many steps each, and a last one.
 #[test]
-fn recovers_after_attempts_that_were_cut(rt: HostRuntime) -> Result<(), Fail> {
+fn recovers_after_attempts_that_were_cut(rt: HostRuntime) {
     let alloc = rt.alloc();
     for first in 0..15_u32 {
         for second in 0..15_u32 {
-            let script = format!(in alloc; "{SYNC}recover d{first}\nrecover d{second}\n")?;
-            expect_replay(&rt, alloc, script.as_str(), SYNC_PRINTS)?;
+            let attempts = format!(in alloc; "{SYNC}recover d{first}\nrecover d{second}\n");
+            let script = attempts.expect(&rt, "no memory");
+            expect_replay(&rt, alloc, &script, SYNC_PRINTS);
         }
     }
     for (session, printed) in [(SYNC, SYNC_PRINTS), (FLASH, FLASH_PRINTS)] {
-        let script = format!(in alloc; "{session}recover d3\nrecover t0 t0 p1\n")?;
-        expect_replay(&rt, alloc, script.as_str(), printed)?;
+        let attempts = format!(in alloc; "{session}recover d3\nrecover t0 t0 p1\n");
+        let script = attempts.expect(&rt, "no memory");
+        expect_replay(&rt, alloc, &script, printed);
     }
-    Ok(())
 }
 
-// A line of a thousand words, each of which asks for a million steps: none is made behind the end.
-#[test]
-fn recovers_by_more_steps_than_there_are(rt: HostRuntime) -> Result<(), Fail> {
-    let alloc = rt.alloc();
+// A line of so many words, each of which asks for a million steps.
+fn long_attempt(alloc: Global, words: u32) -> Result<String, AllocError> {
     let mut script = format!(in alloc; "{SYNC}recover")?;
-    for _ in 0..1_000_u32 {
+    for _ in 0..words {
         script.push_str(" d1000000")?;
     }
     script.push_str("\n")?;
-    expect_replay(&rt, alloc, script.as_str(), SYNC_PRINTS)?;
-    Ok(())
+    Ok(script)
+}
+
+// None is made behind the end.
+#[test]
+fn recovers_by_more_steps_than_there_are(rt: HostRuntime) {
+    let alloc = rt.alloc();
+    let script = long_attempt(alloc, 1_000).expect(&rt, "no memory");
+    expect_replay(&rt, alloc, &script, SYNC_PRINTS);
 }
