@@ -1,11 +1,13 @@
 //! Tests: parts, commands, lists and queues of a few items.
-ghost use Rattle.std.specs.Prelude.{◌≡◌, ◌<◌, length};
+ghost use Rattle.std.specs.Prelude.{◌≡◌, ◌≤◌, ◌<◌, length};
 
-use blk_base::{Block, NoMemory};
+use crate::same::{expect, expect_row};
+use blk_base::Block;
 use order_model::{
     Command, Commands, Completion, History, Inlet, Kind, ListQueue, Outlet, Part, Parts, Priority,
     Request, Tally,
 };
+use std::alloc::Global;
 use std::process::Abort;
 
 // A part whose body is its block's number, over and over.
@@ -32,38 +34,44 @@ fn passes<Q: Outlet<u32> + Inlet<u32>>(
 }
 
 // The number that is put, if one is, or else one is taken; and the number that comes back.
-#[test]
-fn queue_keeps_order(rt: HostRuntime) -> Result<(), NoMemory> {
-    let mut queue = ListQueue::make(rt.alloc(), 3)?;
-    let steps = [
-        (None, None),
-        (Some(10), None),
-        (Some(20), None),
-        (Some(30), None),
-        (Some(40), Some(40)),
-        (None, Some(10)),
-        (Some(50), None),
-        (Some(60), Some(60)),
-        (None, Some(20)),
-        (None, Some(30)),
-        (None, Some(50)),
-        (None, None),
-    ];
-    for (step, (put, back)) in steps.into_iter().enumerate() {
+static STEPS: [(Option<u32>, Option<u32>); 12] = [
+    (None, None),
+    (Some(10), None),
+    (Some(20), None),
+    (Some(30), None),
+    (Some(40), Some(40)),
+    (None, Some(10)),
+    (Some(50), None),
+    (Some(60), Some(60)),
+    (None, Some(20)),
+    (None, Some(30)),
+    (None, Some(50)),
+    (None, None),
+];
+
+fn plays(rt: &impl Abort, queue: &mut ListQueue<u32>) {
+    for (step, (put, back)) in STEPS.iter().enumerate() {
         let came = match put {
-            Some(number) => queue.put(number).err(),
+            Some(number) => queue.put(*number).err(),
             None => queue.take(),
         };
-        assert_eq!(rt; came, back, "step {step}");
+        expect_row(rt, step, &came, back);
     }
-    Ok(())
+}
+
+fn queue_of(rt: &impl Abort, alloc: Global, places: u32) -> ListQueue<u32> {
+    ListQueue::make(alloc, places).expect(rt, "no queue")
 }
 
 #[test]
-fn queue_by_its_bounds(rt: HostRuntime) -> Result<(), NoMemory> {
-    let mut queue = ListQueue::make(rt.alloc(), 1)?;
-    assert_eq!(rt; passes(&mut queue), (Ok(()), Err(8), Some(7)));
-    Ok(())
+fn queue_keeps_order(rt: HostRuntime) {
+    plays(&rt, &mut queue_of(&rt, rt.alloc(), 3));
+}
+
+#[test]
+fn queue_by_its_bounds(rt: HostRuntime) {
+    let came = passes(&mut queue_of(&rt, rt.alloc(), 1));
+    expect(&rt, &came, &(Ok(()), Err(8), Some(7)));
 }
 
 // Whether the part does not fit and comes back as it was.
@@ -75,50 +83,55 @@ fn id_at(parts: &Parts, at: u32) -> Option<u64> {
     Some(parts.get(at)?.id)
 }
 
+// Sixteen parts go in, and the next comes back.
+fn fill(rt: &impl Abort, parts: &mut Parts) {
+    for block in 0..17 {
+        let back = is_back(parts, u64::from(block) + 100, block + 3);
+        expect_row(rt, usize::from(block), &back, &(block == 16));
+    }
+}
+
 #[test]
 fn holds_sixteen_parts(rt: HostRuntime) {
     let mut parts = Parts::none();
-    for block in 0..17 {
-        let back = is_back(&mut parts, u64::from(block) + 100, block + 3);
-        assert!(rt; back == (block == 16), "block {block}");
-    }
-    assert!(rt; parts.len() == 16 && !parts.is_empty());
-    for (at, wanted) in [
-        (0, Some(100)),
-        (15, Some(115)),
-        (16, None),
-        (u32::MAX, None),
-    ] {
-        assert!(rt; id_at(&parts, at) == wanted, "at {at}");
-    }
+    fill(&rt, &mut parts);
+    let ids = [
+        id_at(&parts, 0),
+        id_at(&parts, 15),
+        id_at(&parts, 16),
+        id_at(&parts, u32::MAX),
+    ];
+    let found = (parts.len(), parts.is_empty(), ids);
+    let wanted = (16, false, [Some(100), Some(115), None, None]);
+    expect(&rt, &found, &wanted);
 }
 
 #[test]
 fn parts_follow(rt: HostRuntime) {
     let mut parts = Parts::one(part(1, 5));
-    for (block, back) in [(5, true), (7, true), (4, true), (6, false)] {
-        assert_eq!(rt; is_back(&mut parts, 2, block), back, "block {block}");
-    }
-    assert!(rt; parts.as_slice() == [part(1, 5), part(2, 6)].as_slice());
+    let back = [
+        is_back(&mut parts, 2, 5),
+        is_back(&mut parts, 2, 7),
+        is_back(&mut parts, 2, 4),
+        is_back(&mut parts, 2, 6),
+    ];
+    let follows = parts.as_slice() == [part(1, 5), part(2, 6)].as_slice();
+    expect(&rt, &(back, follows), &([true, true, true, false], true));
+}
+
+// The command has this part alone.
+fn is_of(command: &Command, part: Part) -> bool {
+    command.parts.as_slice() == [part].as_slice()
 }
 
 #[test]
 fn commands_of_one_request(rt: HostRuntime) {
-    let put = Request {
-        id: 3,
-        kind: Kind::Put {
-            block: 9,
-            body: Block::fill(9),
-        },
-        ordered: true,
-        barrier: false,
-    };
-    let command = Command::of_request(put, true);
-    assert!(rt; command.parts.as_slice() == [part(3, 9)].as_slice());
-    assert_eq!(rt;
-        (command.priority, command.barrier, command.flush),
-        (Priority::Ordered, true, None)
-    );
+    let command = Command::of_request(put(part(3, 9)), true);
+    let is_whole = is_of(&command, part(3, 9));
+    let flags = (command.priority, command.barrier, command.flush);
+    drop(command);
+    let wanted = (true, (Priority::Ordered, true, None));
+    expect(&rt, &(is_whole, flags), &wanted);
 }
 
 // A command of these parts, or a flush.
@@ -143,32 +156,36 @@ fn pair(rt: &impl Abort, id: u64, block: u8) -> Parts
     parts
 }
 
-// Whether this part stands at the place.
-fn is_part(commands: &Commands, at: usize, part: Option<&Part>) -> bool {
-    commands.part(at).as_ref() == part
+// The id of the part at the place, the place of the first part of the command of that number, and whether the part is
+// this one.
+fn found(commands: &Commands, at: usize, part: Option<&Part>) -> (Option<u64>, usize, bool)
+    requires { at ≤ length commands.now.items }
+{
+    let is_same = commands.part(at).as_ref() == part;
+    (commands.part_id(at), commands.first_part(at), is_same)
 }
 
 // A put of blocks 5 and 6, a flush, and a put of block 9.
 #[test]
-fn commands_in_order(rt: HostRuntime) -> Result<(), NoMemory> {
-    let mut commands = Commands::make(rt.alloc(), 3)?;
+fn commands_in_order(rt: HostRuntime) {
+    let mut commands = Commands::make(rt.alloc(), 3).expect(&rt, "no commands");
     commands.push(&command(pair(&rt, 0, 5), None));
     commands.push(&command(Parts::none(), Some(2)));
     commands.push(&command(Parts::one(mixed(3, 9)), None));
-    let parts = commands.count_parts();
-    assert!(rt; commands.len() == 3 && parts == 3 && !commands.is_empty());
-    let parts = [part(0, 5), part(1, 6), mixed(3, 9)];
-    for (at, id, first) in [
-        (0, Some(0), 0),
-        (1, Some(1), 2),
-        (2, Some(3), 2),
-        (3, None, 3),
-    ] {
-        let found = (commands.part_id(at), commands.first_part(at));
-        assert_eq!(rt; found, (id, first), "at {at}");
-        assert!(rt; is_part(&commands, at, parts.get(at)), "part {at}");
-    }
-    Ok(())
+    let counts = (commands.len(), commands.count_parts(), commands.is_empty());
+    let places = [
+        found(&commands, 0, Some(&part(0, 5))),
+        found(&commands, 1, Some(&part(1, 6))),
+        found(&commands, 2, Some(&mixed(3, 9))),
+        found(&commands, 3, None),
+    ];
+    let wanted = [
+        (Some(0), 0, true),
+        (Some(1), 2, true),
+        (Some(3), 2, true),
+        (None, 3, true),
+    ];
+    expect(&rt, &(counts, places), &((3, 3, false), wanted));
 }
 
 // A put of these bytes, ordered, without a barrier.
@@ -187,20 +204,18 @@ fn put(part: Part) -> Request {
 #[test]
 fn tallies_count(rt: HostRuntime) {
     let mut tally = Tally::make(2);
-    assert!(rt; tally.is_empty());
+    let was_empty = tally.is_empty();
     tally.push(&put(mixed(0, 5)));
     tally.push(&put(part(1, 6)));
-    assert_eq!(rt; (tally.len(), tally.is_empty()), (2, false));
+    let counts = (was_empty, tally.len(), tally.is_empty());
+    expect(&rt, &counts, &(true, 2, false));
 }
 
 #[test]
-fn history_grows(rt: HostRuntime) -> Result<(), NoMemory> {
-    let mut history = History::make(rt.alloc(), 2)?;
+fn history_grows(rt: HostRuntime) {
+    let mut history = History::make(rt.alloc(), 2).expect(&rt, "no history");
     history.push(Completion::Moved(4));
     history.push(Completion::Cut);
-    assert_eq!(rt;
-        history.as_slice(),
-        [Completion::Moved(4), Completion::Cut].as_slice()
-    );
-    Ok(())
+    let grown = [Completion::Moved(4), Completion::Cut];
+    expect(&rt, &history.as_slice(), &grown.as_slice());
 }

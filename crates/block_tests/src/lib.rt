@@ -13,4 +13,6 @@ mod commands;
 #[cfg(test)]
 mod fields;
 #[cfg(test)]
+mod same;
+#[cfg(test)]
 mod sets;

@@ -1,30 +1,33 @@
 //! Tests of sets of numbers.
+use crate::same::expect;
 use number_sets::{add_u32, add_u64, has_u32, has_u64, sets_have_what_was_added, take_u32};
 
 #[test]
 fn adds_and_takes_numbers(rt: HostRuntime) {
-    let Ok(mut blocks) = Vec::<u32>::with_capacity(rt.alloc(), 4) else {
-        panic!(rt; "no memory");
-    };
+    let mut blocks = Vec::<u32>::with_capacity(rt.alloc(), 4).expect(&rt, "no memory");
     add_u32(&mut blocks, 9);
     add_u32(&mut blocks, 4);
     add_u32(&mut blocks, 9);
     add_u32(&mut blocks, 7);
-    assert!(rt; blocks.as_slice() == [4, 7, 9].as_slice());
+    let is_added = blocks.as_slice() == [4, 7, 9].as_slice();
     take_u32(&mut blocks, 7);
     take_u32(&mut blocks, 5);
-    assert!(rt; blocks.as_slice() == [4, 9].as_slice());
-    assert_eq!(rt; (has_u32(&blocks, 4), has_u32(&blocks, 7)), (true, false));
+    let is_taken = blocks.as_slice() == [4, 9].as_slice();
+    let has = (has_u32(&blocks, 4), has_u32(&blocks, 7));
+    expect(
+        &rt,
+        &(is_added, is_taken, has),
+        &(true, true, (true, false)),
+    );
     sets_have_what_was_added();
 }
 
 #[test]
 fn adds_long_numbers(rt: HostRuntime) {
-    let Ok(mut births) = Vec::<u64>::with_capacity(rt.alloc(), 2) else {
-        panic!(rt; "no memory");
-    };
+    let mut births = Vec::<u64>::with_capacity(rt.alloc(), 2).expect(&rt, "no memory");
     add_u64(&mut births, 8_589_934_593);
     add_u64(&mut births, 1);
-    assert!(rt; births.as_slice() == [1, 8_589_934_593].as_slice());
-    assert_eq!(rt; (has_u64(&births, 1), has_u64(&births, 2)), (true, false));
+    let is_added = births.as_slice() == [1, 8_589_934_593].as_slice();
+    let has = (has_u64(&births, 1), has_u64(&births, 2));
+    expect(&rt, &(is_added, has), &(true, (true, false)));
 }
