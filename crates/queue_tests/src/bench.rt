@@ -2,6 +2,7 @@
 ghost use Rattle.std.specs.Prelude.{◌≡◌, [], true};
 ghost use Rattle.queue_tests.specs.Numbered.{IsNumbered, IsAsked};
 
+use crate::same::{expect, expect_step};
 use blk_base::Block;
 use order_model::{Command, Kind, Priority, Request};
 use schedulers::reassign::{Held, Scheduler, lawful_eligible};
@@ -83,9 +84,13 @@ impl<S: Scheduler> Bench<S> {
 
     /// Does the steps, and ends the process at the first with another answer than it names.
     pub fn plays(&mut self, rt: &impl Abort, steps: &[Step]) {
-        let mut kept = Command::blank();
+        self.plays_on(rt, steps, &mut Command::blank());
+    }
+
+    // The same, beside the command that is kept.
+    fn plays_on(&mut self, rt: &impl Abort, steps: &[Step], kept: &mut Command) {
         for (at, step) in steps.iter().enumerate() {
-            assert_eq!(rt; self.done(*step, &mut kept), *step, "step {at}");
+            expect_step(rt, at, &self.done(*step, kept), step);
         }
     }
 
@@ -141,16 +146,26 @@ impl<S: Scheduler> Bench<S> {
     }
 }
 
-/// A command that was sent: the ids of its first and its last part, or that of the flush, how many parts it
-/// has, whether it is a flush, and how it is ordered.
+/// So many requests were accepted and so many commands sent, as the scheduler's trace and then its record tell.
+pub fn expect_passed<S: Scheduler>(rt: &impl Abort, bench: Bench<S>, accepted: usize, sent: usize) {
+    let Bench { sched, count } = bench;
+    let traced = sched.trace().sent_out.len();
+    let record = sched.into_trace();
+    let passed = (record.accepted.len(), record.sent_out.len());
+    drop(record);
+    let wanted = (accepted as u64, sent, (accepted, sent));
+    expect(rt, &(count, traced, passed), &wanted);
+}
+
+/// A command that was sent: the ids of its first and its last part, or that of the flush twice, and how many parts it has.
 #[derive(Clone, Copy, PartialEq, Eq, Debug)]
-pub struct Sent {
-    first: u64,
-    last: u64,
-    parts: u32,
-    flush: bool,
-    barrier: bool,
-    priority: Priority,
+pub enum Sent {
+    /// It has parts, is no barrier and is free in its order.
+    Plain(u64, u64, u32),
+    /// It is a barrier, and ordered. A flush has no parts.
+    Fence(u64, u64, u32),
+    /// Any other: whether it is a flush, whether it is a barrier, and how it is ordered.
+    Odd(u64, u64, u32, bool, bool, Priority),
 }
 
 fn id_at(c: &Command, at: usize) -> u64 {
@@ -162,36 +177,12 @@ fn id_at(c: &Command, at: usize) -> u64 {
 
 fn sent_of(c: &Command) -> Sent {
     let parts = c.parts.len();
-    Sent {
-        first: id_at(c, 0),
-        last: id_at(c, (parts as usize).saturating_sub(1)),
-        parts,
-        flush: c.flush.is_some(),
-        barrier: c.barrier,
-        priority: c.priority,
+    let first = id_at(c, 0);
+    let last = id_at(c, (parts as usize).saturating_sub(1));
+    let is_flush = c.flush.is_some();
+    match (c.barrier, c.priority) {
+        (false, Priority::Simple) if !is_flush => Sent::Plain(first, last, parts),
+        (true, Priority::Ordered) if is_flush == (parts == 0) => Sent::Fence(first, last, parts),
+        _ => Sent::Odd(first, last, parts, is_flush, c.barrier, c.priority),
     }
-}
-
-/// A command of so many parts that is no barrier.
-pub const fn plain(first: u64, last: u64, parts: u32) -> Option<Sent> {
-    Some(Sent {
-        first,
-        last,
-        parts,
-        flush: false,
-        barrier: false,
-        priority: Priority::Simple,
-    })
-}
-
-/// A command of so many parts that is a barrier. A flush has none.
-pub const fn fence(first: u64, last: u64, parts: u32) -> Option<Sent> {
-    Some(Sent {
-        first,
-        last,
-        parts,
-        flush: parts == 0,
-        barrier: true,
-        priority: Priority::Ordered,
-    })
 }

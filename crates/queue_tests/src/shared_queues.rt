@@ -1,7 +1,7 @@
 //! The queues that threads share: what each end takes, hands back and gives, and two threads at the two ends of one.
 ghost use Rattle.schedulers.specs.dispatch.Opened.{ArePassesOf, AreNew, AreNamed};
 
-use blk_base::NoMemory;
+use crate::same::expect_step;
 use order_model::{Command, Completion, Inlet, Kind, Outlet, Request};
 use schedulers::dispatch::{Ends, Passes, QueueNames, Queues, close, ends, make_queues};
 use std::marker::Brand;
@@ -120,7 +120,7 @@ fn plays<T: Numbered + Drop, O: Outlet<T>, I: Inlet<T>>(
     steps: &[Step],
 ) {
     for (at, step) in steps.iter().enumerate() {
-        assert_eq!(rt; done(out, from, *step), *step, "step {at}");
+        expect_step(rt, at, &done(out, from, *step), step);
     }
 }
 
@@ -161,17 +161,15 @@ fn plays_all<'a, N: QueueNames, H: Wait + Sync + Abort>(
 }
 
 #[test]
-fn hold_two_items(rt: HostRuntime) -> Result<(), NoMemory> {
-    let (queues, passes) = make_queues(&rt, rt.alloc(), 2)?;
+fn hold_two_items(rt: HostRuntime) {
+    let (queues, passes) = make_queues(&rt, rt.alloc(), 2).expect(&rt, "no queues");
     plays_all::<Brand, HostRuntime>(&rt, &queues, passes, &OF_TWO);
-    Ok(())
 }
 
 #[test]
-fn hold_one_item(rt: HostRuntime) -> Result<(), NoMemory> {
-    let (queues, passes) = make_queues(&rt, rt.alloc(), 1)?;
+fn hold_one_item(rt: HostRuntime) {
+    let (queues, passes) = make_queues(&rt, rt.alloc(), 1).expect(&rt, "no queues");
     plays_all::<Brand, HostRuntime>(&rt, &queues, passes, &OF_ONE);
-    Ok(())
 }
 
 // Puts the completions of the ids below `count`, in order.
@@ -244,8 +242,7 @@ fn crosses<'a, N: QueueNames + Send + Sync, H: Threads + Wait + Sync + Abort>(
 
 // A thread puts a thousand items into a queue of three while another takes them.
 #[test]
-fn keep_the_order_between_threads(rt: HostRuntime) -> Result<(), NoMemory> {
-    let (queues, passes) = make_queues(&rt, rt.alloc(), 3)?;
+fn keep_the_order_between_threads(rt: HostRuntime) {
+    let (queues, passes) = make_queues(&rt, rt.alloc(), 3).expect(&rt, "no queues");
     crosses::<Brand, HostRuntime>(&rt, &queues, passes);
-    Ok(())
 }

@@ -1,7 +1,8 @@
 //! Commands that wait: which may go next in a device, and the ring of those that are on their way to it.
 ghost use Rattle.std.specs.Prelude.{◌≤◌};
 
-use blk_base::{Block, NoMemory};
+use crate::same::{expect, expect_step};
+use blk_base::Block;
 use device_epochs::queue::{CommandQueue, CommandRing};
 use order_model::Priority::{Ordered, Simple};
 use order_model::{Command, Part, Parts, Priority};
@@ -35,6 +36,13 @@ struct Bench {
 }
 
 impl Bench {
+    // Ends the process at the first step with another answer than it names.
+    fn plays(&mut self, rt: &impl Abort, steps: &[Step]) {
+        for (at, step) in steps.iter().enumerate() {
+            expect_step(rt, at, &self.done(*step), step);
+        }
+    }
+
     fn done(&mut self, step: Step) -> Step {
         match step {
             Receive(priority, first, blocks, _) => {
@@ -91,83 +99,82 @@ fn first_block(c: Option<&Command>) -> Option<u32> {
     Some(c?.parts.get(0)?.block)
 }
 
-// A new queue of this depth does the steps. The first with another answer than it names ends the process.
-fn plays(rt: &impl Abort, alloc: Global, depth: u32, steps: &[Step]) -> Result<(), NoMemory>
+// A new queue of this depth does the steps.
+fn plays(rt: &impl Abort, alloc: Global, depth: u32, steps: &[Step])
     requires { (1 ≤ depth) × (depth ≤ 64) }
 {
-    let queue = CommandQueue::make(alloc, depth)?;
-    let mut bench = Bench { queue, count: 0 };
-    for (at, step) in steps.iter().enumerate() {
-        assert_eq!(rt; bench.done(*step), *step, "step {at}");
-    }
-    Ok(())
+    let queue = CommandQueue::make(alloc, depth).expect(rt, "no queue");
+    Bench { queue, count: 0 }.plays(rt, steps);
 }
 
+const HOLDS_DEPTH: [Step; 11] = [
+    Receive(Simple, 1, 1, true),
+    Room(true),
+    Receive(Simple, 2, 1, true),
+    Room(false),
+    Receive(Ordered, 3, 2, false),
+    Eligible(2),
+    Take(1, Some(2)),
+    Room(true),
+    IsEmpty(false),
+    Leave(0, Some(1)),
+    IsEmpty(true),
+];
+
 #[test]
-fn holds_depth(rt: HostRuntime) -> Result<(), NoMemory> {
-    let steps = [
-        Receive(Simple, 1, 1, true),
-        Room(true),
-        Receive(Simple, 2, 1, true),
-        Room(false),
-        Receive(Ordered, 3, 2, false),
-        Eligible(2),
-        Take(1, Some(2)),
-        Room(true),
-        IsEmpty(false),
-        Leave(0, Some(1)),
-        IsEmpty(true),
-    ];
-    plays(&rt, rt.alloc(), 2, &steps)
+fn holds_depth(rt: HostRuntime) {
+    plays(&rt, rt.alloc(), 2, &HOLDS_DEPTH);
 }
 
 // 0: SIMPLE at block 1; 1: SIMPLE at block 1; 2: SIMPLE at block 2; 3: ORDERED; 4: SIMPLE.
+const KEEPS_ORDERED_ONES_IN_ORDER: [Step; 24] = [
+    Receive(Simple, 1, 1, true),
+    Receive(Simple, 1, 1, true),
+    Receive(Simple, 2, 1, true),
+    Receive(Ordered, 9, 1, true),
+    Receive(Simple, 3, 1, true),
+    Eligible(2),
+    Peek(0, Some(0), Some(1)),
+    Peek(2, None, None),
+    Peek(1, Some(2), Some(2)),
+    Take(1, Some(2)),
+    Eligible(1),
+    Peek(0, Some(0), Some(1)),
+    Take(0, Some(1)),
+    Eligible(1),
+    Peek(0, Some(1), Some(1)),
+    Take(0, Some(1)),
+    Eligible(1),
+    Peek(0, Some(3), Some(9)),
+    Take(0, Some(9)),
+    Eligible(1),
+    Peek(0, Some(4), Some(3)),
+    Take(0, Some(3)),
+    Eligible(0),
+    Take(0, None),
+];
+
 #[test]
-fn keeps_ordered_ones_in_order(rt: HostRuntime) -> Result<(), NoMemory> {
-    let steps = [
-        Receive(Simple, 1, 1, true),
-        Receive(Simple, 1, 1, true),
-        Receive(Simple, 2, 1, true),
-        Receive(Ordered, 9, 1, true),
-        Receive(Simple, 3, 1, true),
-        Eligible(2),
-        Peek(0, Some(0), Some(1)),
-        Peek(2, None, None),
-        Peek(1, Some(2), Some(2)),
-        Take(1, Some(2)),
-        Eligible(1),
-        Peek(0, Some(0), Some(1)),
-        Take(0, Some(1)),
-        Eligible(1),
-        Peek(0, Some(1), Some(1)),
-        Take(0, Some(1)),
-        Eligible(1),
-        Peek(0, Some(3), Some(9)),
-        Take(0, Some(9)),
-        Eligible(1),
-        Peek(0, Some(4), Some(3)),
-        Take(0, Some(3)),
-        Eligible(0),
-        Take(0, None),
-    ];
-    plays(&rt, rt.alloc(), 8, &steps)
+fn keeps_ordered_ones_in_order(rt: HostRuntime) {
+    plays(&rt, rt.alloc(), 8, &KEEPS_ORDERED_ONES_IN_ORDER);
 }
 
 // Blocks 5 to 7, 7 and 8, and 8 and 9: the third has no block of the first, but waits for the second.
+const KEEPS_BLOCKS_IN_ORDER: [Step; 9] = [
+    Receive(Simple, 5, 3, true),
+    Receive(Simple, 7, 2, true),
+    Receive(Simple, 8, 2, true),
+    Eligible(1),
+    Take(0, Some(5)),
+    Eligible(1),
+    Take(0, Some(7)),
+    Eligible(1),
+    Take(0, Some(8)),
+];
+
 #[test]
-fn keeps_blocks_in_order(rt: HostRuntime) -> Result<(), NoMemory> {
-    let steps = [
-        Receive(Simple, 5, 3, true),
-        Receive(Simple, 7, 2, true),
-        Receive(Simple, 8, 2, true),
-        Eligible(1),
-        Take(0, Some(5)),
-        Eligible(1),
-        Take(0, Some(7)),
-        Eligible(1),
-        Take(0, Some(8)),
-    ];
-    plays(&rt, rt.alloc(), 3, &steps)
+fn keeps_blocks_in_order(rt: HostRuntime) {
+    plays(&rt, rt.alloc(), 3, &KEEPS_BLOCKS_IN_ORDER);
 }
 
 // What a test does with a ring, each with the answer that it expects.
@@ -204,32 +211,36 @@ fn turned(ring: &mut CommandRing, turn: Turn) -> Turn {
 }
 
 // Three slots: the commands at blocks 40 and 50 lie where those at 10 and 20 lay.
-#[test]
-fn ring_wraps_round(rt: HostRuntime) -> Result<(), NoMemory> {
-    let mut ring = CommandRing::make(rt.alloc(), 3)?;
-    let turns = [
-        Remove(None),
-        Push(10, 2, false),
-        Push(20, 3, false),
-        Push(30, 1, true),
-        Remove(Some((10, 2))),
-        Push(40, 1, true),
-        Remove(Some((20, 3))),
-        Push(50, 4, true),
-        Remove(Some((30, 1))),
-        Remove(Some((40, 1))),
-        Remove(Some((50, 4))),
-        Remove(None),
-    ];
-    for (at, turn) in turns.into_iter().enumerate() {
-        assert_eq!(rt; turned(&mut ring, turn), turn, "turn {at}");
+const ROUND: [Turn; 12] = [
+    Remove(None),
+    Push(10, 2, false),
+    Push(20, 3, false),
+    Push(30, 1, true),
+    Remove(Some((10, 2))),
+    Push(40, 1, true),
+    Remove(Some((20, 3))),
+    Push(50, 4, true),
+    Remove(Some((30, 1))),
+    Remove(Some((40, 1))),
+    Remove(Some((50, 4))),
+    Remove(None),
+];
+
+fn goes_round(rt: &impl Abort, ring: &mut CommandRing) {
+    for (at, turn) in ROUND.iter().enumerate() {
+        expect_step(rt, at, &turned(ring, *turn), turn);
     }
-    Ok(())
 }
 
 #[test]
-fn ring_of_no_slots_is_full(rt: HostRuntime) -> Result<(), NoMemory> {
-    let ring = CommandRing::make(rt.alloc(), 0)?;
-    assert!(rt; ring.is_full() && ring.first().is_none());
-    Ok(())
+fn ring_wraps_round(rt: HostRuntime) {
+    let mut ring = CommandRing::make(rt.alloc(), 3).expect(&rt, "no ring");
+    goes_round(&rt, &mut ring);
+}
+
+#[test]
+fn ring_of_no_slots_is_full(rt: HostRuntime) {
+    let ring = CommandRing::make(rt.alloc(), 0).expect(&rt, "no ring");
+    let found = (ring.is_full(), ring.first().is_none());
+    expect(&rt, &found, &(true, true));
 }
