@@ -24,7 +24,7 @@ const SMALL: JournalSuper = JournalSuper {
 };
 
 // What is submitted of two transactions that change blocks 2, 4 and 5 in a log of nine places.
-const NOTES: [Note; 15] = [
+static NOTES: [Note; 15] = [
     Note::Super,
     Note::Descriptor { tx: 1 },
     Note::Body { tx: 1, block: 2 },
@@ -43,7 +43,7 @@ const NOTES: [Note; 15] = [
 ];
 
 // The blocks that it goes to, and which of it are barriers.
-const SENT: [(u32, bool); 15] = [
+static SENT: [(u32, bool); 15] = [
     (64, false),
     (65, false),
     (66, false),
@@ -135,20 +135,21 @@ impl Setting {
     }
 }
 
-// Two changes, each with the steps that are taken of it.
+// Two changes, each with the steps that are taken of it: what it is, whether a call changes blocks, the steps that follow,
+// and the turn of the last one.
+static CHANGES: [(&str, bool, u32, Turn); 4] = [
+    ("new", false, 1, Turn::Idle),
+    ("the first change", true, 8, Turn::Did),
+    ("the first is done", false, 1, Turn::Idle),
+    ("the second change", true, 11, Turn::Did),
+];
+
 fn change_twice(rt: &impl Abort, alloc: Global, session: &mut Setting) {
-    // What it is, whether a call changes blocks, the steps that follow, and the turn of the last one.
-    let rows = [
-        ("new", false, 1, Turn::Idle),
-        ("the first change", true, 8, Turn::Did),
-        ("the first is done", false, 1, Turn::Idle),
-        ("the second change", true, 11, Turn::Did),
-    ];
-    for (name, changes, most, turn) in rows {
-        if changes {
+    for (name, changes, most, turn) in &CHANGES {
+        if *changes {
             session.change(rt, alloc);
         }
-        assert_eq!(rt; session.steps(alloc, most), turn, "{name}");
+        assert_eq!(rt; session.steps(alloc, *most), *turn, "{name}");
     }
 }
 

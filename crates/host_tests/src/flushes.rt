@@ -15,8 +15,8 @@ struct Setting {
     from: ListQueue<Completion>,
 }
 
-// A call of this kind waits for the commit block of transaction 1, which was submitted.
-fn waiting(rt: &impl Abort, alloc: Global, kind: CallKind) -> Setting {
+// A part of which a call of this kind waits for the commit block of transaction 1.
+fn waiting_part(rt: &impl Abort, alloc: Global, kind: CallKind) -> FlushPart {
     let mut part = FlushPart::make(alloc, 4, 10, 1).expect(rt, "no part");
     part.hold(1, 7);
     part.hold(2, 5);
@@ -30,21 +30,39 @@ fn waiting(rt: &impl Abort, alloc: Global, kind: CallKind) -> Setting {
     if part.threads() > 0 {
         part.set_wait(0, wait);
     }
-    let mut out = ListQueue::make(alloc, 2).expect(rt, "no queue");
-    let from = ListQueue::make(alloc, 3).expect(rt, "no queue");
-    let kind = Kind::Put {
-        block: 3,
-        body: Block::fill(1),
+    part
+}
+
+// A call of this kind waits for the commit block of transaction 1, which was submitted.
+fn waiting(rt: &impl Abort, alloc: Global, kind: CallKind) -> Setting {
+    let mut session = Setting {
+        part: waiting_part(rt, alloc, kind),
+        out: ListQueue::make(alloc, 2).expect(rt, "no queue"),
+        from: ListQueue::make(alloc, 3).expect(rt, "no queue"),
     };
-    let turn = part.submit(kind, true, true, Note::Commit { tx: 1 }, &mut out);
-    assert_eq!(rt; turn, Turn::Did);
-    if part.submitted() > 0 {
-        part.note_commit(1, 0);
-    }
-    Setting { part, out, from }
+    session.commit(rt);
+    session
 }
 
 impl Setting {
+    // A block that is filled with a byte is sent in order.
+    fn put(&mut self, block: u32, byte: u8, barrier: bool, note: Note) -> Turn {
+        let kind = Kind::Put {
+            block,
+            body: Block::fill(byte),
+        };
+        self.part.submit(kind, true, barrier, note, &mut self.out)
+    }
+
+    // The commit block of transaction 1 is sent.
+    fn commit(&mut self, rt: &impl Abort) {
+        let turn = self.put(3, 1, true, Note::Commit { tx: 1 });
+        assert_eq!(rt; turn, Turn::Did);
+        if self.part.submitted() > 0 {
+            self.part.note_commit(1, 0);
+        }
+    }
+
     // The device tells this, or nothing, and the flush actor takes a step.
     fn step(&mut self, told: Option<Completion>) -> Turn {
         if let Some(completion) = told {
@@ -56,15 +74,17 @@ impl Setting {
         flush_step(&mut self.part, &mut self.out, &mut self.from)
     }
 
-    // The device tells this, and it is taken, whatever is due.
-    fn take(&mut self, told: Option<Completion>) -> Turn {
-        if let Some(completion) = told {
-            let _ = self.from.put(completion);
-        }
+    // What the device told is taken, whatever is due.
+    fn take(&mut self) -> Turn {
         if self.part.taken() > self.part.limit() {
             return Turn::NoMemory;
         }
         take_step(&mut self.part, &mut self.from)
+    }
+
+    // Whether a request is in the queue, which is taken from it then.
+    fn has_sent(&mut self) -> bool {
+        self.out.take().is_some()
     }
 
     // Whether a flush is due, was submitted and is done.
@@ -77,27 +97,36 @@ impl Setting {
     }
 }
 
+// What is told, the turn, and then of the flush.
+static SYNC_STEPS: [(Option<Completion>, Turn, [bool; 3]); 4] = [
+    (Some(Completion::Moved(0)), Turn::Did, [true, false, false]),
+    (None, Turn::Did, [false, true, false]),
+    (Some(Completion::Flushed(1)), Turn::Did, [false, true, true]),
+    (None, Turn::Idle, [false, true, true]),
+];
+
+fn expect_flush(rt: &impl Abort, session: &mut Setting) {
+    for (told, turn, flush) in &SYNC_STEPS {
+        assert_eq!(rt;
+            (session.step(*told), session.flush()),
+            (*turn, *flush),
+            "{told:?}"
+        );
+    }
+}
+
 #[test]
 fn one_flush_serves_a_sync_call(rt: HostRuntime) {
     let mut session = waiting(&rt, rt.alloc(), CallKind::FileSync);
     let need = session.part.wait(0).and_then(|wait| wait.need);
-    assert_eq!(rt; (need, session.part.flush_due()), (Some(0), false));
-    // What is told, the turn, and then of the flush.
-    let rows = [
-        (Some(Completion::Moved(0)), Turn::Did, [true, false, false]),
-        (None, Turn::Did, [false, true, false]),
-        (Some(Completion::Flushed(1)), Turn::Did, [false, true, true]),
-        (None, Turn::Idle, [false, true, true]),
-    ];
-    for (told, turn, flush) in rows {
-        assert_eq!(rt;
-            (session.step(told), session.flush()),
-            (turn, flush),
-            "{told:?}"
-        );
-    }
+    let due = session.part.flush_due();
+    expect_flush(&rt, &mut session);
     let told = (session.part.last_put(), session.part.least_conflict());
-    assert_eq!(rt; told, (Some(0), Some((5, 2))));
+    drop(session);
+    assert_eq!(rt;
+        (need, due, told),
+        (Some(0), false, (Some(0), Some((5, 2))))
+    );
 }
 
 // The turn of a step behind each that is told.
@@ -107,48 +136,49 @@ fn expect_turns(rt: &impl Abort, session: &mut Setting, rows: &[(Option<Completi
     }
 }
 
+static CUT_STEPS: [(Option<Completion>, Turn); 3] = [
+    (Some(Completion::Moved(0)), Turn::Did),
+    (Some(Completion::Cut), Turn::QueueFull),
+    (None, Turn::QueueFull),
+];
+
 // Behind a power cut nothing leaves the queue: the cut is heard of though a flush is due and finds no room.
 #[test]
 fn power_cut_is_heard_while_a_flush_finds_no_room(rt: HostRuntime) {
     let mut session = waiting(&rt, rt.alloc(), CallKind::FileSync);
-    let kind = Kind::Put {
-        block: 4,
-        body: Block::fill(2),
-    };
-    let turn = session
-        .part
-        .submit(kind, true, false, Note::Super, &mut session.out);
-    assert_eq!(rt; turn, Turn::Did);
-    let rows = [
-        (Some(Completion::Moved(0)), Turn::Did),
-        (Some(Completion::Cut), Turn::QueueFull),
-        (None, Turn::QueueFull),
-    ];
-    expect_turns(&rt, &mut session, &rows);
-    assert_eq!(rt; session.take(None), Turn::Did);
+    let put = session.put(4, 2, false, Note::Super);
+    expect_turns(&rt, &mut session, &CUT_STEPS);
+    let taken = session.take();
     let told = (session.part.is_cut(), session.part.flush_due());
-    assert_eq!(rt; told, (true, false));
-    assert_eq!(rt;
-        (session.take(None), session.step(None)),
-        (Turn::Idle, Turn::Idle)
-    );
+    let over = session.take();
+    let last = session.step(None);
+    drop(session);
+    let turns = [put, taken, over, last];
+    let wanted = [Turn::Did, Turn::Did, Turn::Idle, Turn::Idle];
+    assert_eq!(rt; (turns, told), (wanted, (true, false)));
 }
+
+static LAST_STEPS: [(Option<Completion>, Turn); 5] = [
+    (Some(Completion::Moved(0)), Turn::Did),
+    (Some(Completion::Failed(0)), Turn::Did),
+    (None, Turn::Did),
+    (None, Turn::Idle),
+    (Some(Completion::Cut), Turn::Did),
+];
 
 #[test]
 fn nothing_is_due_once_it_is_over(rt: HostRuntime) {
     let mut session = waiting(&rt, rt.alloc(), CallKind::WholeSync);
-    let rows = [
-        (Some(Completion::Moved(0)), Turn::Did),
-        (Some(Completion::Failed(0)), Turn::Did),
-        (None, Turn::Did),
-        (None, Turn::Idle),
-        (Some(Completion::Cut), Turn::Did),
-    ];
-    expect_turns(&rt, &mut session, &rows);
+    expect_turns(&rt, &mut session, &LAST_STEPS);
     let part = &session.part;
-    let told = (part.first_failed(), part.is_cut(), part.is_over());
-    assert_eq!(rt; told, (Some(0), true, true));
-    assert!(rt; !part.at_limit() && session.out.take().is_some());
+    let failed = part.first_failed();
+    let ends = (part.is_cut(), part.is_over(), part.at_limit());
+    let has_sent = session.has_sent();
+    drop(session);
+    assert_eq!(rt;
+        (failed, ends, has_sent),
+        (Some(0), (true, true, false), true)
+    );
 }
 
 #[test]

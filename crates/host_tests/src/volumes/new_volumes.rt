@@ -74,7 +74,11 @@ fn leaves_tree(call: &Call) -> bool
 fn shown(rt: &impl Abort, alloc: Global, volume: &PlainVolume, line: &str) -> String {
     let call = call_of(rt, alloc, line);
     let zones = volume.needs(&call);
-    format!(in alloc; "{:?}, {zones}", volume.reply(&call)).expect(rt, "no text")
+    let answer = volume.reply(&call);
+    drop(call);
+    let text = format!(in alloc; "{answer:?}, {zones}").expect(rt, "no text");
+    drop(answer);
+    text
 }
 
 // What the call of a line is answered that changes nothing.
@@ -82,71 +86,93 @@ fn asked(rt: &impl Abort, alloc: Global, volume: &PlainVolume, line: &str) -> St
     let call = call_of(rt, alloc, line);
     assert!(rt; leaves_tree(&call));
     let reply = volume.ask(alloc, &call).expect(rt, "no reply");
-    format!(in alloc; "{reply:?}").expect(rt, "no text")
+    drop(call);
+    let text = format!(in alloc; "{reply:?}").expect(rt, "no text");
+    drop(reply);
+    text
 }
+
+// The text is the one that is wanted of a call, which the message names.
+pub fn expect_text(rt: &impl Abort, text: &str, wanted: &str, call: &str) {
+    assert_eq!(rt; text, wanted, "{call}");
+}
+
+// The lines are answered so before they are done.
+fn expect_shown(rt: &impl Abort, alloc: Global, volume: &PlainVolume, rows: &[(&str, &str)]) {
+    for (line, answer) in rows {
+        let text = shown(rt, alloc, volume, line);
+        expect_text(rt, text.as_str(), answer, line);
+    }
+}
+
+// The lines, which change nothing, are answered so.
+fn expect_asked(rt: &impl Abort, alloc: Global, volume: &PlainVolume, rows: &[(&str, &str)]) {
+    for (line, answer) in rows {
+        let text = asked(rt, alloc, volume, line);
+        expect_text(rt, text.as_str(), answer, line);
+    }
+}
+
+static ANSWERS: [(&str, &str); 13] = [
+    ("mkdir /a", "Change, 1"),
+    ("mkdir /", "Refused(Exists), 0"),
+    ("create /a", "Change, 0"),
+    ("create a", "Refused(BadPath), 0"),
+    ("create /b/z", "Refused(NotFound), 0"),
+    ("create /abcdefghijklmn", "Change, 0"),
+    ("create /abcdefghijklmno", "Refused(NameTooLong), 0"),
+    ("rmdir /", "Refused(Invalid), 0"),
+    ("unlink /a", "Refused(NotFound), 0"),
+    ("list /", "Change, 0"),
+    ("fsync /x", "Refused(NotFound), 0"),
+    ("link / /a", "Refused(IsDir), 0"),
+    ("sync", "Change, 0"),
+];
 
 #[test]
 fn answers_on_a_new_volume(rt: HostRuntime) {
-    let rows = [
-        ("mkdir /a", "Change, 1"),
-        ("mkdir /", "Refused(Exists), 0"),
-        ("create /a", "Change, 0"),
-        ("create a", "Refused(BadPath), 0"),
-        ("create /b/z", "Refused(NotFound), 0"),
-        ("create /abcdefghijklmn", "Change, 0"),
-        ("create /abcdefghijklmno", "Refused(NameTooLong), 0"),
-        ("rmdir /", "Refused(Invalid), 0"),
-        ("unlink /a", "Refused(NotFound), 0"),
-        ("list /", "Change, 0"),
-        ("fsync /x", "Refused(NotFound), 0"),
-        ("link / /a", "Refused(IsDir), 0"),
-        ("sync", "Change, 0"),
-    ];
     let volume = new_volume(&rt, rt.alloc(), SMALL);
-    for (line, answer) in rows {
-        let text = shown(&rt, rt.alloc(), &volume, line);
-        assert_eq!(rt; text.as_str(), answer, "{line}");
-    }
+    expect_shown(&rt, rt.alloc(), &volume, &ANSWERS);
+    drop(volume);
 }
+
+static ANSWERS_WIDE: [(&str, &str); 5] = [
+    ("mkdir /abcdefghijklmno", "Change, 1"),
+    ("create /abcdefghijklmnopqrstuvwxyz-123", "Change, 0"),
+    (
+        "create /abcdefghijklmnopqrstuvwxyz-1234",
+        "Refused(NameTooLong), 0",
+    ),
+    ("stat /abcdefghijklmno", "Refused(NotFound), 0"),
+    (
+        "stat /abcdefghijklmnopqrstuvwxyz-1234",
+        "Refused(NameTooLong), 0",
+    ),
+];
+
+static ROOT_WIDE: [(&str, &str); 1] = [("stat /", "Stat { dir: true, size: 64, links: 2 }")];
 
 #[test]
 fn answers_on_a_new_volume_of_long_names(rt: HostRuntime) {
-    let rows = [
-        ("mkdir /abcdefghijklmno", "Change, 1"),
-        ("create /abcdefghijklmnopqrstuvwxyz-123", "Change, 0"),
-        (
-            "create /abcdefghijklmnopqrstuvwxyz-1234",
-            "Refused(NameTooLong), 0",
-        ),
-        ("stat /abcdefghijklmno", "Refused(NotFound), 0"),
-        (
-            "stat /abcdefghijklmnopqrstuvwxyz-1234",
-            "Refused(NameTooLong), 0",
-        ),
-    ];
     let volume = new_volume(&rt, rt.alloc(), WIDE);
-    for (line, answer) in rows {
-        let text = shown(&rt, rt.alloc(), &volume, line);
-        assert_eq!(rt; text.as_str(), answer, "{line}");
-    }
-    let text = asked(&rt, rt.alloc(), &volume, "stat /");
-    assert_eq!(rt; text.as_str(), "Stat { dir: true, size: 64, links: 2 }");
+    expect_shown(&rt, rt.alloc(), &volume, &ANSWERS_WIDE);
+    expect_asked(&rt, rt.alloc(), &volume, &ROOT_WIDE);
+    drop(volume);
 }
+
+static ROOT: [(&str, &str); 5] = [
+    ("stat /", "Stat { dir: true, size: 32, links: 2 }"),
+    ("list /", "Names(NameList { names: [] })"),
+    ("read / 0 4", "IsDir"),
+    ("fsync /a", "NotFound"),
+    ("sync", "Ok"),
+];
 
 #[test]
 fn tells_of_the_root(rt: HostRuntime) {
-    let rows = [
-        ("stat /", "Stat { dir: true, size: 32, links: 2 }"),
-        ("list /", "Names(NameList { names: [] })"),
-        ("read / 0 4", "IsDir"),
-        ("fsync /a", "NotFound"),
-        ("sync", "Ok"),
-    ];
     let volume = new_volume(&rt, rt.alloc(), SMALL);
-    for (line, answer) in rows {
-        let text = asked(&rt, rt.alloc(), &volume, line);
-        assert_eq!(rt; text.as_str(), answer, "{line}");
-    }
+    expect_asked(&rt, rt.alloc(), &volume, &ROOT);
+    drop(volume);
 }
 
 // The birth of the node to which a path leads.
@@ -155,24 +181,30 @@ fn birth_at(rt: &impl Abort, alloc: Global, volume: &PlainVolume, path: &str) ->
     volume.node(&ByteList::of(path))
 }
 
-// The third byte of a block, which is that of a first name where the block is a directory's.
-fn name_byte(volume: &PlainVolume, block: u32) -> Option<u8> {
-    volume.block_bytes(block).as_slice().get(2).copied()
+fn byte_at(volume: &PlainVolume, block: u32, at: usize) -> Option<u8> {
+    volume.block_bytes(block).as_slice().get(at).copied()
 }
+
+// A block has at a place a byte, by rows of the three.
+pub fn expect_bytes(rt: &impl Abort, volume: &PlainVolume, rows: &[(u32, usize, u8)]) {
+    for (block, at, byte) in rows {
+        assert_eq!(rt; byte_at(volume, *block, *at), Some(*byte), "{block} {at}");
+    }
+}
+
+// The third byte of a block is that of a first name where the block is a directory's.
+static NEW_BYTES: [(u32, usize, u8); 2] = [(5, 2, b'.'), (64, 2, 0)];
 
 #[test]
 fn has_blocks_and_zones(rt: HostRuntime) {
     let mut volume = new_volume(&rt, rt.alloc(), SMALL);
     volume.release(3);
-    let births = (
-        birth_at(&rt, rt.alloc(), &volume, "/"),
-        birth_at(&rt, rt.alloc(), &volume, "/a"),
-    );
-    assert_eq!(rt; births, (Some(0), None));
+    let root = birth_at(&rt, rt.alloc(), &volume, "/");
+    let other = birth_at(&rt, rt.alloc(), &volume, "/a");
     let zones = (volume.zones().free_count(), volume.geometry().first);
-    assert_eq!(rt; zones, (58, 5));
-    let bytes = (name_byte(&volume, 5), name_byte(&volume, 64));
-    assert_eq!(rt; bytes, (Some(b'.'), Some(0)));
+    expect_bytes(&rt, &volume, &NEW_BYTES);
+    drop(volume);
+    assert_eq!(rt; (root, other, zones), (Some(0), None, (58, 5)));
 }
 
 // Does a call, under the first number from 1 that it can have, where there is room for it.
@@ -191,7 +223,15 @@ pub fn reply_done(alloc: Global, volume: &mut PlainVolume, call: &Call) -> Resul
 // Does the call of a line.
 pub fn do_line(rt: &impl Abort, alloc: Global, volume: &mut PlainVolume, line: &str) {
     let call = call_of(rt, alloc, line);
-    let _ = reply_done(alloc, volume, &call).expect(rt, "not done");
+    let reply = reply_done(alloc, volume, &call).expect(rt, "not done");
+    drop(reply);
+    drop(call);
+}
+
+pub fn do_lines(rt: &impl Abort, alloc: Global, volume: &mut PlainVolume, lines: &[&str]) {
+    for line in lines {
+        do_line(rt, alloc, volume, line);
+    }
 }
 
 pub fn tree_text(rt: &impl Abort, alloc: Global, volume: &PlainVolume) -> String {
@@ -201,23 +241,28 @@ pub fn tree_text(rt: &impl Abort, alloc: Global, volume: &PlainVolume) -> String
     text
 }
 
-#[test]
-fn hands_out_its_tree(rt: HostRuntime) {
-    let alloc = rt.alloc();
-    let mut volume = new_volume(&rt, alloc, SMALL);
-    assert_eq!(rt; tree_text(&rt, alloc, &volume).as_str(), "dir /\n");
-    for line in ["mkdir /a", "create /a/f", "write /a/f 1022 3 61"] {
-        do_line(&rt, alloc, &mut volume, line);
-    }
-    assert_eq!(rt;
-        tree_text(&rt, alloc, &volume).as_str(),
-        "dir /\ndir /a\nfile /a/f size 1025 links 1\nblock 0 1022x00+2x61\nblock 1 1x61\n"
-    );
+// This is the tree after a call.
+pub fn expect_tree(rt: &impl Abort, alloc: Global, volume: &PlainVolume, tree: &str, after: &str) {
+    let text = tree_text(rt, alloc, volume);
+    expect_text(rt, text.as_str(), tree, after);
 }
 
-// The bytes of blocks 2 to 6 after the calls below, at these places; all others are zeros. They are the maps of inodes
+// A directory and a file in it, which has two blocks.
+static LINES: [&str; 3] = ["mkdir /a", "create /a/f", "write /a/f 1022 3 61"];
+
+#[test]
+fn hands_out_its_tree(rt: HostRuntime) {
+    let mut volume = new_volume(&rt, rt.alloc(), SMALL);
+    expect_tree(&rt, rt.alloc(), &volume, "dir /\n", "no call");
+    do_lines(&rt, rt.alloc(), &mut volume, &LINES);
+    let tree = "dir /\ndir /a\nfile /a/f size 1025 links 1\nblock 0 1022x00+2x61\nblock 1 1x61\n";
+    expect_tree(&rt, rt.alloc(), &volume, tree, "write");
+    drop(volume);
+}
+
+// The bytes of blocks 2 to 6 after the calls above, at these places; all others are zeros. They are the maps of inodes
 // and of zones, in which this volume did not mark the root, three inodes, the root's slots and those of `/a`.
-const WRITTEN: [(u32, usize, &[u8]); 11] = [
+static WRITTEN: [(u32, usize, &[u8]); 11] = [
     (2, 0, b"\x0c"),
     (3, 0, b"\x1c"),
     (4, 0, b"\xed\x41\0\0\x30\0\0\0\0\0\0\0\0\x03\x05\0"),
@@ -232,7 +277,7 @@ const WRITTEN: [(u32, usize, &[u8]); 11] = [
 ];
 
 // The same where names have up to 30 bytes, and the file in `/a` has one of 30.
-const WRITTEN_WIDE: [(u32, usize, &[u8]); 11] = [
+static WRITTEN_WIDE: [(u32, usize, &[u8]); 11] = [
     (2, 0, b"\x0c"),
     (3, 0, b"\x1c"),
     (4, 0, b"\xed\x41\0\0\x60\0\0\0\0\0\0\0\0\x03\x05\0"),
@@ -268,67 +313,74 @@ fn first_other(volume: &PlainVolume, written: &[(u32, usize, &[u8])], block: u32
     None
 }
 
-#[test]
-fn writes_inodes_and_slots(rt: HostRuntime) {
-    let mut volume = new_volume(&rt, rt.alloc(), SMALL);
-    for line in ["mkdir /a", "create /a/f", "write /a/f 1022 3 61"] {
-        do_line(&rt, rt.alloc(), &mut volume, line);
-    }
+// Blocks 2 to 6 have these bytes.
+fn expect_written(rt: &impl Abort, volume: &PlainVolume, written: &[(u32, usize, &[u8])]) {
     for block in 2..7 {
-        let other = first_other(&volume, &WRITTEN, block);
+        let other = first_other(volume, written, block);
         assert_eq!(rt; other, None, "{block}");
     }
 }
+
+#[test]
+fn writes_inodes_and_slots(rt: HostRuntime) {
+    let mut volume = new_volume(&rt, rt.alloc(), SMALL);
+    do_lines(&rt, rt.alloc(), &mut volume, &LINES);
+    expect_written(&rt, &volume, &WRITTEN);
+    drop(volume);
+}
+
+// The same with a name of 30 bytes.
+static LINES_WIDE: [&str; 3] = [
+    "mkdir /a",
+    "create /a/abcdefghijklmnopqrstuvwxyz-123",
+    "write /a/abcdefghijklmnopqrstuvwxyz-123 1022 3 61",
+];
 
 #[test]
 fn writes_inodes_and_slots_of_long_names(rt: HostRuntime) {
     let mut volume = new_volume(&rt, rt.alloc(), WIDE);
-    for line in [
-        "mkdir /a",
-        "create /a/abcdefghijklmnopqrstuvwxyz-123",
-        "write /a/abcdefghijklmnopqrstuvwxyz-123 1022 3 61",
-    ] {
-        do_line(&rt, rt.alloc(), &mut volume, line);
-    }
-    for block in 2..7 {
-        let other = first_other(&volume, &WRITTEN_WIDE, block);
-        assert_eq!(rt; other, None, "{block}");
-    }
+    do_lines(&rt, rt.alloc(), &mut volume, &LINES_WIDE);
+    expect_written(&rt, &volume, &WRITTEN_WIDE);
+    drop(volume);
 }
 
 // Gives the root of a new volume so many names of one file.
-fn filled(rt: &impl Abort, alloc: Global, g: Geometry, names: u32) -> PlainVolume
-    requires { IsSound g }
-{
-    let mut volume = new_volume(rt, alloc, g);
-    do_line(rt, alloc, &mut volume, "create /0");
+fn fill_root(rt: &impl Abort, alloc: Global, volume: &mut PlainVolume, names: u32) {
+    do_line(rt, alloc, volume, "create /0");
     for name in 1..names {
         let line = format!(in alloc; "link /0 /{name}").expect(rt, "no line");
-        do_line(rt, alloc, &mut volume, line.as_str());
+        do_line(rt, alloc, volume, line.as_str());
     }
-    volume
 }
 
-// The size of the root, and the zones that one more name takes.
-fn root_seen(rt: &impl Abort, alloc: Global, volume: &PlainVolume) -> (String, u32) {
+// The root is shown so, and one more name takes so many zones.
+fn expect_root(rt: &impl Abort, alloc: Global, volume: &PlainVolume, root: &str, zones: u32) {
     let call = call_of(rt, alloc, "link /0 /more");
-    (asked(rt, alloc, volume, "stat /"), volume.needs(&call))
+    let needed = volume.needs(&call);
+    drop(call);
+    let text = asked(rt, alloc, volume, "stat /");
+    assert_eq!(rt; (text.as_str(), needed), (root, zones));
+}
+
+// The name `more` has the first slot of block 6.
+fn expect_more(rt: &impl Abort, volume: &PlainVolume) {
+    let body = volume.block_bytes(6);
+    let slot = body.as_slice().get(..7).expect(rt, "short");
+    assert_eq!(rt; slot, b"\x02\0more\0".as_slice());
 }
 
 // So many names fill a block of the root's slots, and one more, with which it has this size, stands in the next zone.
 fn expect_another(rt: &impl Abort, alloc: Global, g: Geometry, names: u32, after: &str)
     requires { IsSound g }
 {
-    let mut volume = filled(rt, alloc, g, names);
-    let (text, zones) = root_seen(rt, alloc, &volume);
+    let mut volume = new_volume(rt, alloc, g);
+    fill_root(rt, alloc, &mut volume, names);
     let full = "Stat { dir: true, size: 1024, links: 2 }";
-    assert_eq!(rt; (text.as_str(), zones), (full, 1));
+    expect_root(rt, alloc, &volume, full, 1);
     do_line(rt, alloc, &mut volume, "link /0 /more");
-    let (text, zones) = root_seen(rt, alloc, &volume);
-    assert_eq!(rt; (text.as_str(), zones), (after, 0));
-    let body = volume.block_bytes(6);
-    let slot = body.as_slice().get(..7).expect(rt, "short");
-    assert_eq!(rt; slot, b"\x02\0more\0".as_slice());
+    expect_root(rt, alloc, &volume, after, 0);
+    expect_more(rt, &volume);
+    drop(volume);
 }
 
 // A block has 64 slots with short names and 32 with long ones, and two are those of the root itself.
