@@ -27,7 +27,7 @@ use Rattle.session_core.specs.CallEnds.{HasGoneOff, IsAtLimit, IsFirstFailed, Is
 use Rattle.session_core.specs.Headline.{Medium, IsLastChange, last_write, is_durable, kind_of, AnsweredAt, WasAnswered, told_by, submitted_in, kept_in, IsFound, HasLaterKept, IsShownBy, IsAllShown, ShowsLater}
 use Rattle.session_core.specs.Report.{tree_behind}
 use Rattle.session_threads.specs.Ran.{RanAs}
-use Rattle.session_threads.specs.declared.sides.beside.events.Effects.{Effects}
+use Rattle.thread_sides.specs.declared.events.Effects.{Effects}
 use Rattle.barrierfs_top.specs.Runs.{threads_script_of}
 use Rattle.barrierfs_top.specs.Top.{WasRead}
 

@@ -26,7 +26,7 @@ use Rattle.call_sessions.specs.promises.Legal.{events_in, program_of}
 use Rattle.session_core.specs.run.parts.Whole.{IsWhole}
 use Rattle.session_grammar.specs.declared.session_script.SessionScript.{SessionScript}
 use Rattle.session_core.specs.Core.{IsDeviceOf, IsNewFor, opening_of, start_of}
-use Rattle.session_threads.specs.declared.sides.beside.events.Effects.{Effects}
+use Rattle.thread_sides.specs.declared.events.Effects.{Effects}
 use Rattle.session_threads.specs.sides.Ended.{HasEnded}
 use Rattle.session_threads.specs.sides.HostReplay.{with_completions}
 use Rattle.session_threads.specs.sides.Sides.{AreSides}

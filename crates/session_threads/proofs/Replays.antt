@@ -10,16 +10,16 @@ use Rattle.call_sessions.specs.Sessions.{host_behind}
 use Rattle.host_core.specs.Now.{HostNow}
 use Rattle.minix_host.specs.Sessions.{Opening}
 use Rattle.session_core.specs.run.machine.Machine.{Start}
-use Rattle.session_threads.specs.declared.sides.beside.events.DeviceEvent.{DeviceEvent}
-use Rattle.session_threads.specs.declared.sides.beside.events.DeviceEvent.TheVariants as device_events
-use Rattle.session_threads.specs.declared.sides.beside.events.Effects.{Effects}
-use Rattle.session_threads.specs.declared.sides.beside.events.HostEvent.{HostEvent}
-use Rattle.session_threads.specs.declared.sides.beside.events.SchedEvent.{SchedEvent}
-use Rattle.session_threads.specs.declared.sides.beside.events.SchedEvent.TheVariants as sched_events
-use Rattle.session_threads.specs.sides.beside.DeviceReplay as device
-use Rattle.session_threads.specs.sides.beside.DeviceReplay.{with_commands, receives}
-use Rattle.session_threads.specs.sides.beside.SchedReplay as scheduler
-use Rattle.session_threads.specs.sides.beside.SchedReplay.{with_requests, accepts}
+use Rattle.thread_sides.specs.declared.events.DeviceEvent.{DeviceEvent}
+use Rattle.thread_sides.specs.declared.events.DeviceEvent.TheVariants as device_events
+use Rattle.thread_sides.specs.declared.events.Effects.{Effects}
+use Rattle.thread_sides.specs.declared.events.HostEvent.{HostEvent}
+use Rattle.thread_sides.specs.declared.events.SchedEvent.{SchedEvent}
+use Rattle.thread_sides.specs.declared.events.SchedEvent.TheVariants as sched_events
+use Rattle.thread_sides.specs.DeviceReplay as device
+use Rattle.thread_sides.specs.DeviceReplay.{with_commands, receives}
+use Rattle.thread_sides.specs.SchedReplay as scheduler
+use Rattle.thread_sides.specs.SchedReplay.{with_requests, accepts}
 use Rattle.session_threads.specs.sides.HostReplay.{with_completions, takes}
 use Rattle.session_threads.specs.Replayed.{AreReplayed}
 use Rattle.session_threads.specs.sides.Sides.{AreSides}

@@ -15,7 +15,7 @@ use Rattle.session_core.specs.Core.{flash_for, opening_of}
 use Rattle.session_core.specs.Report.{HasAttempts, HasModelAttempts}
 use Rattle.session_core.specs.declared.report.SessionReport.{SessionReport}
 use Rattle.session_core.proofs.Remounts.{FollowFunction}
-use Rattle.session_threads.specs.sides.beside.Opened.{flog_setup}
+use Rattle.thread_sides.specs.Opened.{flog_setup}
 use Rattle.session_threads.specs.Ran.{LeftBy, LeftWith, RanWith, part_setup}
 use Rattle.session_threads.specs.declared.report.ThreadsEnd.{ThreadsEnd}
 

@@ -1,4 +1,3 @@
 pub mod HostEvents
 pub mod HostSteps
 pub mod Fits
-pub mod BesideLemmas

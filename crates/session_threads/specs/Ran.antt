@@ -15,8 +15,8 @@ use Rattle.session_core.specs.Headline.{HeadlineOn}
 use Rattle.session_core.specs.Report.{HasAttemptsAs, IsReportOf}
 use Rattle.session_core.specs.code.Ends.{IsEndOfScript}
 use Rattle.session_core.specs.run.parts.Whole.{IsWhole}
-use Rattle.session_threads.specs.sides.beside.Opened.{PartSetup}
-use Rattle.session_threads.specs.declared.sides.beside.events.Effects.{Effects}
+use Rattle.thread_sides.specs.Opened.{PartSetup}
+use Rattle.thread_sides.specs.declared.events.Effects.{Effects}
 use Rattle.session_threads.specs.sides.Ended.{HasEnded}
 use Rattle.session_threads.specs.Replayed.{AreReplayed}
 use Rattle.session_threads.specs.declared.report.ThreadsEnd.{ThreadsEnd}

@@ -9,11 +9,11 @@ use Rattle.tree_model.specs.declared.call.Reply.{Reply}
 use Rattle.volume_steps.specs.Now.{VolumeNow}
 use Rattle.minix_host.specs.Sessions.{Opening}
 use Rattle.session_core.specs.run.machine.Machine.{Start}
-use Rattle.session_threads.specs.declared.sides.beside.events.Effects.{Effects}
-use Rattle.session_threads.specs.sides.beside.DeviceReplay as device
-use Rattle.session_threads.specs.sides.beside.DeviceReplay.{with_commands}
-use Rattle.session_threads.specs.sides.beside.SchedReplay as scheduler
-use Rattle.session_threads.specs.sides.beside.SchedReplay.{with_requests}
+use Rattle.thread_sides.specs.declared.events.Effects.{Effects}
+use Rattle.thread_sides.specs.DeviceReplay as device
+use Rattle.thread_sides.specs.DeviceReplay.{with_commands}
+use Rattle.thread_sides.specs.SchedReplay as scheduler
+use Rattle.thread_sides.specs.SchedReplay.{with_requests}
 use Rattle.session_threads.specs.sides.HostReplay.{with_completions}
 
 -- Each part is led to by its events from the part that the session opens, over all that the part before it gave: the host by the

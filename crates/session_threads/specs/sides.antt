@@ -3,4 +3,3 @@ pub mod Noting
 pub mod HostReplay
 pub mod Ended
 pub mod Sides
-pub mod beside

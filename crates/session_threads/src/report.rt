@@ -1,7 +1,7 @@
 //! What a session in threads leaves.
-use crate::sides::beside::Effects;
 use session_core::SessionReport;
 use session_core::run::SessionEnd;
+use thread_sides::Effects;
 
 /// What a session in threads left, and the events of its three sides.
 #[derive(Drop)]

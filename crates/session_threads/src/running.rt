@@ -16,7 +16,6 @@ ghost use Rattle.session_threads.specs.sides.Sides.{AreSides};
 ghost use Rattle.session_threads.specs.Ran.{HasRoom, IsThreadsReport, LeftBy, LeftWith, part_setup};
 
 use crate::report::{ThreadsEnd, ThreadsReport};
-use crate::sides::beside::{IdFlags, OpensDevice, OpensScheduler};
 use crate::sides::{Gate, JoinedParts, SessionNames, run_sides};
 use blk_base::NoMemory;
 use call_sessions::power_cuts::calls::attempts_on_model_devices;
@@ -38,6 +37,7 @@ use std::alloc::Global;
 use std::marker::Brand;
 use std::sync::Wait;
 use std::thread::Threads;
+use thread_sides::{IdFlags, OpensDevice, OpensScheduler};
 
 // What the sides of a session need besides their parts: the queues between them, and a flag for each id.
 struct SharedRoom {

@@ -4,7 +4,7 @@ ghost use Rattle.device_epochs.specs.Device.{opened as opened_device};
 ghost use Rattle.schedulers.specs.reassign.Sched.{opened as opened_sched};
 ghost use Rattle.schedulers.specs.declared.reassign.scheduler.TheConstants.{CAPACITY};
 ghost use Rattle.schedulers.specs.dispatch.Opened.{ArePassesOf, AreNew, AreNamed};
-ghost use Rattle.session_threads.specs.sides.beside.Opened.{epoch_setup};
+ghost use Rattle.thread_sides.specs.Opened.{epoch_setup};
 
 use blk_base::{Block, Image, NoMemory};
 use device_epochs::{DeviceSetup, EpochDevice};
@@ -13,9 +13,6 @@ use schedulers::dispatch::{
     CompletionEnd, Ends, Passes, Queues, SubmitEnd, close, ends, make_queues,
 };
 use schedulers::epochs::Sched;
-use session_threads::sides::beside::{
-    DeviceEvent, DeviceSide, IdFlags, PartNames, SchedEvent, SchedSide,
-};
 use std::alloc::Global;
 use std::marker::Brand;
 use std::process::Abort;
@@ -36,6 +33,9 @@ enum Step {
 }
 
 use Step::{Accept, Answer, Complete, Dispatch, Persist, Receive, Submit, Transfer};
+use thread_sides::{
+    DeviceEvent, DeviceSide, IdFlags, PartNames, SchedEvent, SchedSide,
+};
 
 // Queues hold one item, and there are two ids.
 const STEPS: [Step; 31] = [

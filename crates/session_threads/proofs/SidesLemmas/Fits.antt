@@ -13,9 +13,9 @@ use Rattle.host_core.specs.Now.{HostNow}
 use Rattle.minix_host.specs.Sessions.{Opening}
 use Rattle.session_core.specs.run.machine.Machine.{Start}
 use Rattle.session_core.specs.run.parts.Joined.{PartsFit}
-use Rattle.session_threads.specs.declared.sides.beside.events.Effects.{Effects}
-use Rattle.session_threads.specs.sides.beside.DeviceReplay as device
-use Rattle.session_threads.specs.sides.beside.SchedReplay as scheduler
+use Rattle.thread_sides.specs.declared.events.Effects.{Effects}
+use Rattle.thread_sides.specs.DeviceReplay as device
+use Rattle.thread_sides.specs.SchedReplay as scheduler
 use Rattle.session_threads.specs.sides.Ended.{HasEnded}
 use Rattle.session_threads.specs.sides.HostReplay.{HostSideNow, IsHostReplay}
 use Rattle.session_threads.specs.sides.Sides.{AreSides}

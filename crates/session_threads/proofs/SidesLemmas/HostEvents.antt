@@ -4,8 +4,8 @@ use Rattle.std.proofs.lemmas.List.{drop_at}
 use Rattle.order_model.specs.declared.completion.Completion.{Completion}
 use Rattle.host_machine.specs.runs.Runs.{Event}
 use Rattle.host_machine.specs.runs.Runs as runs
-use Rattle.session_threads.specs.declared.sides.beside.events.HostEvent.{HostEvent}
-use Rattle.session_threads.specs.declared.sides.beside.events.HostEvent.TheVariants as noted
+use Rattle.thread_sides.specs.declared.events.HostEvent.{HostEvent}
+use Rattle.thread_sides.specs.declared.events.HostEvent.TheVariants as noted
 use Rattle.session_threads.specs.sides.HostReplay.{with_completions, takes}
 
 none_left : (n : ℕ) → drop {A = Completion} n [] ≡ drop {A = Completion} (suc n) []

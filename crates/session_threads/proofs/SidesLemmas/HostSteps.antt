@@ -34,8 +34,8 @@ use Rattle.session_core.specs.run.parts.Still.{is_still, AreSame}
 use Rattle.session_core.proofs.RunLemmas.PartsLemmas.Waiting.{advance_leaves}
 use Rattle.session_core.proofs.RunLemmas.PartsLemmas.Idling.{commit_leaves, writeback_leaves, flush_leaves, take_leaves}
 use Rattle.session_threads.specs.sides.Noting.{is_still_answer}
-use Rattle.session_threads.specs.declared.sides.beside.events.HostEvent.{HostEvent}
-use Rattle.session_threads.specs.declared.sides.beside.events.HostEvent.TheVariants as noted
+use Rattle.thread_sides.specs.declared.events.HostEvent.{HostEvent}
+use Rattle.thread_sides.specs.declared.events.HostEvent.TheVariants as noted
 use Rattle.session_threads.specs.sides.HostReplay.{with_completions, takes, HostSideNow, IsHostReplay}
 use Rattle.session_threads.proofs.SidesLemmas.HostEvents.{more_events, same_takes, more_taken, one_take}
 

@@ -11,8 +11,8 @@ use Rattle.minix_host.specs.Sessions.{Opening}
 use Rattle.call_sessions.specs.Sessions.{WriteBytes}
 use Rattle.session_core.specs.run.machine.Machine.{Start}
 use Rattle.session_core.specs.run.CodeHosts.{IsInSession}
-use Rattle.session_threads.specs.declared.sides.beside.events.HostEvent.{HostEvent}
-use Rattle.session_threads.specs.declared.sides.beside.events.HostEvent.TheVariants as noted
+use Rattle.thread_sides.specs.declared.events.HostEvent.{HostEvent}
+use Rattle.thread_sides.specs.declared.events.HostEvent.TheVariants as noted
 
 -- the steps of the host that these events are, where it took these completions, one at each `Take`
 abbrev pub with_completions : List HostEvent → List Completion → List Event

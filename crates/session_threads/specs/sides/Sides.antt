@@ -10,9 +10,9 @@ use Rattle.host_core.specs.Now.{HostNow}
 use Rattle.minix_host.specs.Sessions.{Opening}
 use Rattle.session_core.specs.run.parts.Joined.{PartsFit}
 use Rattle.session_core.specs.run.machine.Machine.{Start}
-use Rattle.session_threads.specs.declared.sides.beside.events.Effects.{Effects}
-use Rattle.session_threads.specs.sides.beside.DeviceReplay as device
-use Rattle.session_threads.specs.sides.beside.SchedReplay as scheduler
+use Rattle.thread_sides.specs.declared.events.Effects.{Effects}
+use Rattle.thread_sides.specs.DeviceReplay as device
+use Rattle.thread_sides.specs.SchedReplay as scheduler
 use Rattle.session_threads.specs.sides.HostReplay.{IsHostReplay}
 
 -- What the scheduler and the device took, and what they sent, are some lists; what one took is a prefix of what the one before it sent.

@@ -4,10 +4,10 @@ ghost use Rattle.std.specs.List.{list_any};
 ghost use Rattle.order_model.specs.Steps.{IsTraceOf};
 ghost use Rattle.session_threads.specs.sides.Ended.{HasEnded, IsAllDone, is_failed, is_commit};
 
-use crate::sides::beside::has_sent_all;
 use host_core::Host;
 use order_model::{Completion, Note, OrderedDev};
 use schedulers::reassign::Scheduler;
+use thread_sides::has_sent_all;
 
 // Whether a completion says that a request failed.
 fn some_failed(told: &[Completion]) -> bool

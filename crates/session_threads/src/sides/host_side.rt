@@ -7,7 +7,6 @@ ghost use Rattle.session_core.specs.run.CodeHosts.{IsInSession};
 ghost use Rattle.host_core.specs.Done.{is_done};
 ghost use Rattle.session_threads.specs.sides.HostReplay.{IsHostReplay};
 
-use crate::sides::beside::HostEvent;
 use crate::sides::names::SessionNames;
 use crate::sides::noted_steps::{are_same, is_full, is_noted, marks_of};
 use blk_base::NoMemory;
@@ -18,6 +17,7 @@ use schedulers::dispatch::{CompletionEnd, SubmitEnd};
 use std::alloc::Global;
 use std::marker::Model;
 use std::sync::Wait;
+use thread_sides::HostEvent;
 
 /// The host of a session, its two ends of the queues, and its events.
 pub struct HostSide<'a, N: SessionNames, H: Wait> {

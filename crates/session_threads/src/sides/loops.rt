@@ -5,7 +5,6 @@
 //! to its event, the loop says so and ends, and so do all others.
 ghost use Rattle.std.specs.Prelude.{◌≤◌};
 
-use crate::sides::beside::{DeviceSide, OpensDevice, OpensScheduler, PartNames, SchedSide};
 use crate::sides::flags::Flags;
 use crate::sides::gate::Gate;
 use crate::sides::host_side::HostSide;
@@ -20,6 +19,7 @@ use schedulers::reassign::Scheduler;
 use std::alloc::Global;
 use std::sync::{Mutex, Wait};
 use std::thread;
+use thread_sides::{DeviceSide, OpensDevice, OpensScheduler, PartNames, SchedSide};
 
 // Asks the gate, and yields where it does not let the worker pass.
 fn passes<G: Gate>(gate: &G, who: u32, turn: &mut u64) -> bool {

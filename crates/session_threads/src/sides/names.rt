@@ -2,8 +2,8 @@
 ghost use Rattle.minix_host.specs.Sessions.{Opening};
 ghost use Rattle.session_core.specs.run.machine.Machine.{Start};
 
-use crate::sides::beside::PartNames;
 use std::marker::Brand;
+use thread_sides::PartNames;
 
 /// Which session it is, as the meaning of a type: what the script opens. It has no calls. Sides that have the same N are of one
 /// session, whatever locks they come out of.

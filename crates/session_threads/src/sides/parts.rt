@@ -1,6 +1,6 @@
 //! What comes out of the three locks.
-use crate::sides::beside::Effects;
 use host_core::Host;
+use thread_sides::Effects;
 
 /// The parts of a session that has ended, and the events that led to them.
 #[derive(Drop)]

@@ -11,7 +11,6 @@ ghost use Rattle.session_core.specs.run.CodeHosts.{IsInSession};
 ghost use Rattle.session_threads.specs.sides.Ended.{HasEnded};
 ghost use Rattle.session_threads.specs.sides.Sides.{AreSides};
 
-use crate::sides::beside::{DeviceSide, Effects, IdFlags, OpensDevice, OpensScheduler, SchedSide};
 use crate::sides::ending::has_ended;
 use crate::sides::flags::Flags;
 use crate::sides::gate::Gate;
@@ -30,6 +29,7 @@ use std::alloc::Global;
 use std::sync::{Mutex, Wait};
 use std::thread;
 use std::thread::Threads;
+use thread_sides::{DeviceSide, Effects, IdFlags, OpensDevice, OpensScheduler, SchedSide};
 
 // So many callers, counted from 1, and the six other loops.
 fn workers(alloc: Global, callers: u32) -> Result<Vec<u32>, NoMemory> {

@@ -1,5 +1,5 @@
 use Rattle.std.proofs.Common.{◌∷◌, [], ◌++◌, refl, sym, ap, ◌∙◌, ⊎_elim}
-use Rattle.session_threads.specs.declared.sides.beside.events.HostEvent.TheVariants.{Call}
+use Rattle.thread_sides.specs.declared.events.HostEvent.TheVariants.{Call}
 use Rattle.session_threads.proofs.SidesLemmas.HostSteps.{stays, call_noted, call_still}
 use Rattle.session_threads.proofs.sides.host_side.HostSide.call.Goals as goal
 

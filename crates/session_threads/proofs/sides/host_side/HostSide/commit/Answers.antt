@@ -1,7 +1,7 @@
 use Rattle.std.proofs.Common.{◌≡◌, ◌∷◌, [], ◌++◌, refl, sym, ap, ◌∙◌}
 use Rattle.order_model.specs.declared.turn.Turn.{Turn}
 use Rattle.order_model.specs.declared.turn.Turn.TheVariants as turns
-use Rattle.session_threads.specs.declared.sides.beside.events.HostEvent.TheVariants.{Commit}
+use Rattle.thread_sides.specs.declared.events.HostEvent.TheVariants.{Commit}
 use Rattle.session_threads.proofs.SidesLemmas.HostSteps.{other_turn, refused_or, stays, commit_noted, commit_idle}
 use Rattle.session_threads.proofs.sides.host_side.HostSide.commit.Goals as goal
 

@@ -1,5 +1,5 @@
 use Rattle.std.proofs.Common.{◌∷◌, [], ◌++◌, sym, ap, ◌∙◌}
-use Rattle.session_threads.specs.declared.sides.beside.events.HostEvent.TheVariants.{Flush, Take}
+use Rattle.thread_sides.specs.declared.events.HostEvent.TheVariants.{Flush, Take}
 use Rattle.session_threads.proofs.SidesLemmas.HostSteps.{other_turn, flush_still, flush_noted, take_noted}
 use Rattle.session_threads.proofs.sides.host_side.HostSide.flush.Goals as goal
 

@@ -1,5 +1,5 @@
 use Rattle.std.proofs.Common.{◌∷◌, [], ◌++◌, ap, ◌∙◌}
-use Rattle.session_threads.specs.declared.sides.beside.events.HostEvent.TheVariants.{Take}
+use Rattle.thread_sides.specs.declared.events.HostEvent.TheVariants.{Take}
 use Rattle.session_threads.proofs.SidesLemmas.HostSteps.{other_turn, take_still, took_noted}
 use Rattle.session_threads.proofs.sides.host_side.HostSide.take.Goals as goal
 

@@ -1,5 +1,5 @@
 use Rattle.std.proofs.Common.{◌∷◌, [], ◌++◌, refl, ap, ◌∙◌}
-use Rattle.session_threads.specs.declared.sides.beside.events.HostEvent.TheVariants.{Writeback}
+use Rattle.thread_sides.specs.declared.events.HostEvent.TheVariants.{Writeback}
 use Rattle.session_threads.proofs.SidesLemmas.HostSteps.{other_turn, stays, writeback_noted, writeback_idle}
 use Rattle.session_threads.proofs.sides.host_side.HostSide.writeback.Goals as goal
 

@@ -1,8 +1,0 @@
-use Rattle.session_threads.proofs.SidesLemmas.BesideLemmas.Admitting.{acceptable, flagged_more}
-use Rattle.session_threads.proofs.sides.beside.laws.requests_that_pass_are_acceptable.Goals as goal
-
-pub returns-clause-may : goal.returns-clause-may
-returns-clause-may c = λ p flags r fl limit may. acceptable p flags r fl limit may
-
-pub returns-clause-more : goal.returns-clause-more
-returns-clause-more c = λ ids flags id old. flagged_more ids flags id old
