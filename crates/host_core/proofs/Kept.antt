@@ -1,5 +1,5 @@
 -- What steps keep of a host.
-use Rattle.std.proofs.Common.{◌≡◌, ℕ, Bool, List, length, set, Option, Some, None, Result, Ok, Err, OnErr, refl, sym, ap, arith, ◌∙◌}
+use Rattle.std.proofs.Common.{◌≡◌, ℕ, Bool, List, length, map, set, Option, Some, None, Result, Ok, Err, OnErr, refl, sym, ap, subst, arith, ◌∙◌}
 use Rattle.std.proofs.Math.ListN.{length-set}
 use Rattle.blk_base.specs.laws.Members.{each_set}
 use Rattle.minix_layout.specs.declared.division.Geometry.{Geometry}
@@ -17,40 +17,61 @@ use Rattle.host_machine.specs.State.{Begun}
 use Rattle.host_core.specs.begun.Steps.{Gone, goes_on, keeps_all}
 use Rattle.host_core.specs.at_once.Steps.{with_part, PlainProgress, Went, steps_plainly}
 use Rattle.host_answers.specs.declared.entry.Entry.{Entry}
-use Rattle.host_core.specs.code.Fields.{IsHost, IsWithin, AreNoted}
+use Rattle.host_core.specs.code.Fields.{IsHost, IsWithin, AreNoted, program_of}
+use Rattle.host_core.specs.code.Known.{IsKnown, StaysKnown}
 use Rattle.host_core.specs.code.Progress.{KeepsHost, parts_now}
 use Rattle.host_core.specs.code.Steps.{released}
 use Rattle.host_core.specs.declared.host_parts.HostParts.{HostParts}
+use Rattle.host_core.specs.declared.known.Known.{Known}
 use Rattle.host_core.specs.declared.thread.Thread.{Thread}
 use Rattle.host_core.proofs.Plainly.{plainly_silent}
 use Rattle.host_core.proofs.WaitsKept.{going_keeps}
 
-pub kept : (j k : CommitActor) (v w : VolumeNow) (ts : List Thread) (entries : List Entry) → IsHost j v ts entries → k.blocks ≡ j.blocks → w.geometry ≡ v.geometry → length k.part.flush.waits ≡ length j.part.flush.waits
-    → IsHost k w ts entries
-kept j k v w ts entries h blocks geometry waits = record {
+pub kept : (j k : CommitActor) (v w : VolumeNow) (x y : Known) (ts : List Thread) (entries : List Entry) → IsHost j v x ts entries → k.blocks ≡ j.blocks → w.geometry ≡ v.geometry → length k.part.flush.waits ≡ length j.part.flush.waits
+    → StaysKnown v w x y → IsHost k w y ts entries
+kept j k v w x y ts entries h blocks geometry waits known = record {
   blocks = blocks ∙ h.blocks ∙ ap (λ (g : Geometry). g.zones) (sym geometry);
   waits = waits ∙ h.waits;
   few = h.few;
   within = h.within;
   noted = h.noted;
+  known = known (map program_of ts) h.known;
 }
 
+-- nothing that stands beside the volume tells what is known of it
+pub known_still : (v : VolumeNow) (x : Known) → StaysKnown v v x x
+known_still v x programs k = k
+
 -- one thread changes
-pub kept_with : (j : CommitActor) (v : VolumeNow) (ts : List Thread) (entries more : List Entry) (at : ℕ) (new : Thread) → IsHost j v ts entries → IsWithin new → AreNoted (set ts at new) more → IsHost j v (set ts at new) more
-kept_with j v ts entries more at new h own noted = record {
+pub kept_with : (j : CommitActor) (v : VolumeNow) (x : Known) (ts : List Thread) (entries more : List Entry) (at : ℕ) (new : Thread) → IsHost j v x ts entries → IsWithin new → AreNoted (set ts at new) more
+    → map program_of (set ts at new) ≡ map program_of ts → IsHost j v x (set ts at new) more
+kept_with j v x ts entries more at new h own noted programs = record {
   blocks = h.blocks;
   waits = h.waits ∙ sym (length-set ts at new);
   few = let same = length-set ts at new in let few = h.few in omega arith;
   within = each_set IsWithin ts at new h.within own;
   noted = noted;
+  known = subst (λ ps. IsKnown ps v x) (sym programs) h.known;
+}
+
+-- a step of a call
+pub kept_by : (old mid : HostParts) (ts : List Thread) (entries : List Entry) → IsHost old.journal old.volume old.known ts entries → KeepsHost old mid → IsKnown (map program_of ts) mid.volume mid.known
+    → IsHost mid.journal mid.volume mid.known ts entries
+kept_by old mid ts entries h k known = record {
+  blocks = k.blocks ∙ h.blocks ∙ ap (λ (g : Geometry). g.zones) (sym k.geometry);
+  waits = k.waits ∙ h.waits;
+  few = h.few;
+  within = h.within;
+  noted = h.noted;
+  known = known;
 }
 
 -- a caller's step, with what it found and what was noted
-pub kept_noted : (old mid : HostParts) (l : CommitActor) (f : FlushPart) (ts : List Thread) (entries more : List Entry) (at : ℕ) (new : Thread) → IsHost old.journal old.volume ts entries → KeepsHost old mid
-    → l ≡ with_flush mid.journal f → length l.part.flush.waits ≡ length mid.journal.part.flush.waits → IsWithin new → AreNoted (set ts at new) more → IsHost l mid.volume (set ts at new) more
-kept_noted old mid l f ts entries more at new h k journal waits own noted =
-    let stays = kept old.journal l old.volume mid.volume ts entries h (ap (λ (a : CommitActor). a.blocks) journal ∙ k.blocks) k.geometry (waits ∙ k.waits) in
-    kept_with l mid.volume ts entries more at new stays own noted
+pub kept_noted : (old mid : HostParts) (l : CommitActor) (f : FlushPart) (ts : List Thread) (entries more : List Entry) (at : ℕ) (new : Thread) → IsHost old.journal old.volume old.known ts entries → KeepsHost old mid
+    → IsKnown (map program_of ts) mid.volume mid.known → map program_of (set ts at new) ≡ map program_of ts → l ≡ with_flush mid.journal f → length l.part.flush.waits ≡ length mid.journal.part.flush.waits → IsWithin new → AreNoted (set ts at new) more → IsHost l mid.volume mid.known (set ts at new) more
+kept_noted old mid l f ts entries more at new h k known programs journal waits own noted =
+    let stays = kept mid.journal l mid.volume mid.volume mid.known mid.known ts entries (kept_by old mid ts entries h k known) (ap (λ (a : CommitActor). a.blocks) journal) refl waits (known_still mid.volume mid.known) in
+    kept_with l mid.volume mid.known ts entries more at new stays own noted programs
 
 pub released_same : (before after : Option ℕ) (v : VolumeNow) → (released after_release before after v).geometry ≡ v.geometry
 released_same None after v = refl

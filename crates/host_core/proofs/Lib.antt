@@ -8,6 +8,7 @@ mod Noted
 mod Placed
 mod Plainly
 mod Steps
+mod KnownKept
 mod Kept
 mod Stops
 mod Advanced

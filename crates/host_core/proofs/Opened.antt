@@ -18,6 +18,8 @@ use Rattle.host_core.specs.Now.{HostNow, host_made}
 use Rattle.host_core.specs.code.Fields.{thread_of, program_of, IsFresh, AreFresh, AreNoted, IsHost, host_of}
 use Rattle.host_answers.specs.declared.entry.Entry.{Entry}
 use Rattle.host_core.specs.declared.thread.Thread.{Thread}
+use Rattle.host_core.specs.declared.known.Known.{Known}
+use Rattle.host_core.proofs.KnownKept.{nothing_known}
 use Rattle.host_core.proofs.Placed.{none_noted}
 
 abbrev fresh : List Call → machine.Thread Call
@@ -88,12 +90,14 @@ made_done j v w ps qs owners history cuts ts r programs blocks zones callers ej 
     ∙ ap (λ x. built w r w.geometry.zones w.geometry.zones [] (map (λ (p : List Call). no_wait) (map program_of ts)) x (map program_of ts)) (fresh_threads ts fresh_ts)
     ∙ ap (λ x. built w r w.geometry.zones w.geometry.zones [] (map (λ (p : List Call). no_wait) x) (map fresh x) x) et
 
-pub made_is_host : (j : CommitActor) (v w : VolumeNow) (ts : List Thread) (history : List Entry) (r : JournalRing) (programs : List (List Call)) (blocks callers : ℕ)
-    → j ≡ made r blocks blocks callers → v ≡ w → blocks ≡ w.geometry.zones → callers ≡ length ts → map program_of ts ≡ programs → length programs < 2 ^ 32 → AreFresh ts → history ≡ [] → IsHost j v ts history
-made_is_host j v w ts history r programs blocks callers ej ev eb ec et few fresh_ts none = record {
+pub made_is_host : (j : CommitActor) (v w : VolumeNow) (k : Known) (ts : List Thread) (history : List Entry) (r : JournalRing) (programs : List (List Call)) (blocks callers : ℕ)
+    → j ≡ made r blocks blocks callers → v ≡ w → blocks ≡ w.geometry.zones → callers ≡ length ts → map program_of ts ≡ programs → length programs < 2 ^ 32 → AreFresh ts → history ≡ [] → k.calls.items ≡ [] → k.to_come ≡ None
+    → IsHost j v k ts history
+made_is_host j v w k ts history r programs blocks callers ej ev eb ec et few fresh_ts none calls to_come = record {
   blocks = ap (λ (a : CommitActor). a.blocks) ej ∙ eb ∙ ap (λ (x : VolumeNow). x.geometry.zones) (sym ev);
   waits = ap (λ (a : CommitActor). length a.part.flush.waits) ej ∙ length-replicate callers no_wait ∙ ec;
   few = let n = length-map ts program_of in let e : length (map program_of ts) ≡ length programs = ap length et in omega arith;
   within = λ t i. let own = fresh_ts t i in record { ended = let zero : t.ended ≡ 0 = own.ended in omega arith; short = own.short };
   noted = subst (AreNoted ts) (sym none) (none_noted ts (λ t i. (fresh_ts t i).ended));
+  known = nothing_known (map program_of ts) v k calls to_come;
 }

@@ -4,3 +4,4 @@ pub mod Fields
 pub mod Replies
 pub mod Progress
 pub mod HostTraces
+pub mod Known

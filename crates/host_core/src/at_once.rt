@@ -11,6 +11,6 @@ mod laws;
 mod room;
 mod step;
 
-pub use crate::gates::{PlainVolume, asked, kind_of, node_of};
+pub use crate::gates::{Needs, PlainVolume, asked, kind_of, node_of, would_change};
 pub use laws::{plain_calls_step_on_their_parts, replies_are_of_the_tree};
 pub use step::{PlainProgress, step_plainly};

@@ -44,7 +44,16 @@ impl Host {
         }
         let number = self.history.len() as u64 + 1;
         let parts = &mut self.parts;
-        let Ok(found) = step_call(alloc, parts, number, at, &caller.begun, call, out) else {
+        let Ok(found) = step_call(
+            alloc,
+            parts,
+            number,
+            at,
+            caller.ended,
+            &caller.begun,
+            call,
+            out,
+        ) else {
             return Step::NoMemory;
         };
         let caller = &mut self.threads[at as usize];

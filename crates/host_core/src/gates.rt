@@ -14,4 +14,4 @@ pub use asking::{asked, node_of, would_change};
 pub use kinds::{call_path, kind_of};
 pub use laws::calls_wait_by_their_parts;
 pub use volume_calls::{PlainVolume, volumes_are_plain};
-pub use waiting::hindrance;
+pub use waiting::{Needs, hindrance};

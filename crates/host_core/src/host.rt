@@ -1,11 +1,12 @@
 //! The host.
-ghost use Rattle.std.specs.Prelude.{◌≡◌, ◌≢◌, ◌==◌, ◌+◌, ◌-◌, ◌^◌, ◌≤◌, ◌++◌, ◌<◌, [], true, length, drop, filter, map, replicate, slice_index_or, IfOk, OnErr, vec_capacity};
+ghost use Rattle.std.specs.Prelude.{◌≡◌, ◌≢◌, ◌==◌, ◌+◌, ◌-◌, ◌^◌, ◌≤◌, ◌++◌, ◌<◌, [], true, length, drop, filter, map, replicate, slice_index_or, None, IfOk, OnErr, vec_capacity};
 ghost use Rattle.order_model.specs.declared.turn.Turn.TheVariants as turns;
 ghost use Rattle.journal_ring.specs.running.Closing.{writers};
 ghost use Rattle.commit_actor.specs.Actor.{made, builds_plan};
 ghost use Rattle.flush_actor.specs.Outcomes.{is_queue_full, first_since, sent_between};
 ghost use Rattle.host_machine.specs.Host as machine;
 ghost use Rattle.volume_steps.specs.Calls.{after_release};
+ghost use Rattle.host_core.specs.code.Known.{StaysKnown};
 ghost use Rattle.host_core.specs.code.Steps.{cuts_after, released};
 ghost use Rattle.flush_actor.specs.Part.{has_stopped};
 ghost use Rattle.flush_actor.specs.Waits.{no_wait};
@@ -19,6 +20,7 @@ ghost use Rattle.host_core.specs.Now.{host_made, model_now, setup_now, with_host
 
 use crate::at_once::PlainVolume;
 use crate::host_parts::HostParts;
+use crate::known::Known;
 use crate::programs::Programs;
 use crate::thread::Thread;
 use blk_base::NoMemory;
@@ -48,17 +50,18 @@ impl Model for Host {
 
     ghost view = { λ h. host_of h.parts.journal h.parts.volume h.parts.pages h.parts.owners.items h.history.items h.cuts.items h.threads.items };
 
-    ghost invariant = { λ h. IsHost h.parts.journal h.parts.volume h.threads.items h.history.items };
+    ghost invariant = { λ h. IsHost h.parts.journal h.parts.volume h.parts.known h.threads.items h.history.items };
 }
 
-// The journal's part of a session, and for each zone the transaction that took it: none.
-fn journal_and_owners(
+// The journal's part of a session, for each zone the transaction that took it: none, and what is known of the volume:
+// nothing.
+fn new_parts(
     alloc: Global,
     ring: Ring,
     limit: u64,
     zones: u16,
     callers: u32,
-) -> Result<(JournalPart, Vec<u64>), NoMemory>
+) -> Result<(JournalPart, Vec<u64>, Known), NoMemory>
     requires ring { ring ≡ new_ring.made ring.made_with limit }
     requires sound { IsSound ring.made_with }
     requires empty { ring.made_with.start ≡ 0 }
@@ -67,11 +70,14 @@ fn journal_and_owners(
     requires sequences { ring.made_with.sequence + limit + 1 < 2 ^ 32 }
     ensures journal { IfOk result (λ r. r.0 ≡ made ring zones zones callers) }
     ensures owners { IfOk result (λ r. r.1.items ≡ replicate zones 0) }
+    ensures calls { IfOk result (λ r. r.2.calls.items ≡ []) }
+    ensures to_come { IfOk result (λ r. r.2.to_come ≡ None) }
 {
     let blocks = u32::from(zones);
     let owners = vec![in alloc; 0; usize::from(zones)]?;
+    let known = Known::new(alloc, callers as usize)?;
     let journal = JournalPart::make(alloc, ring, limit, blocks, blocks, callers)?;
-    Ok((journal, owners))
+    Ok((journal, owners, known))
 }
 
 impl Host {
@@ -98,13 +104,14 @@ impl Host {
     {
         let zones = volume.geometry().zones;
         let threads = programs.into_threads();
-        match journal_and_owners(alloc, ring, limit, zones, threads.len() as u32) {
-            Ok((journal, owners)) => Ok(Host {
+        match new_parts(alloc, ring, limit, zones, threads.len() as u32) {
+            Ok((journal, owners, known)) => Ok(Host {
                 parts: HostParts {
                     journal,
                     volume,
                     pages,
                     owners,
+                    known,
                 },
                 history: Vec::new(alloc),
                 cuts: Vec::new(alloc),
@@ -266,6 +273,7 @@ impl Host {
         note_cut(&mut self.cuts, builds, self.history.len() as u64);
         release_closed(
             &mut self.parts.volume,
+            &mut self.parts.known,
             before,
             self.parts.journal.committing(),
         );
@@ -360,12 +368,19 @@ fn note_cut(cuts: &mut Vec<u64>, noted: bool, now: u64)
 }
 
 // Releases the zones of a transaction whose last log block was submitted.
-fn release_closed(volume: &mut PlainVolume, before: Option<u32>, after: Option<u32>)
-    ensures { volume.new ≡ released after_release before after volume.old }
+fn release_closed(
+    volume: &mut PlainVolume,
+    known: &mut Known,
+    before: Option<u32>,
+    after: Option<u32>,
+)
+    ensures volume { volume.new ≡ released after_release before after volume.old }
+    ensures known { StaysKnown volume.old volume.new known.old known.new }
 {
     if let Some(tx) = before
         && after.is_none()
     {
         volume.release(tx);
+        known.forget();
     }
 }

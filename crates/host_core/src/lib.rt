@@ -5,8 +5,8 @@
 //! their log blocks, and the write-back sends single pages.
 //!
 //! `host` has the host with the actors' steps, `calling` the callers' step, and `standing` how a caller stands. `stepping`
-//! has a step of a call, on the `host_parts` that calls change, and `call_progress` and `noted_reply` how far that brought
-//! it; `settling` has what the host then notes of the call. `programs` has the callers' calls, and `thread` a caller. `host_trace`
+//! has a step of a call, on the `host_parts` that calls change, of which `known` has what need not be asked again, and
+//! `call_progress` and `noted_reply` how far that brought it; `settling` has what the host then notes of the call. `programs` has the callers' calls, and `thread` a caller. `host_trace`
 //! has what is kept of a host once its session has ended.
 //!
 //! Stands on `commit_actor` and `flush_actor`, whose parts it has together, on `page_cache`, and on `begun`
@@ -23,6 +23,7 @@ pub mod gates;
 mod host;
 mod host_parts;
 mod host_trace;
+mod known;
 pub mod lengths;
 mod noted_reply;
 mod programs;

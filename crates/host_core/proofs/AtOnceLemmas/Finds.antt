@@ -13,8 +13,7 @@ use Rattle.journal_ring.specs.running.Running.{fits_in, log_needs}
 use Rattle.flush_actor.specs.Kinds.{is_reading}
 use Rattle.commit_actor.specs.Actor.{CommitActor}
 use Rattle.commit_actor.specs.Journal.{JournalPart, is_closing}
-use Rattle.volume_model.specs.Touched.{Touched}
-use Rattle.volume_steps.specs.Now.{VolumeNow, tree_of_now, room_of, untouched}
+use Rattle.volume_steps.specs.Now.{VolumeNow, Change, tree_of_now, room_of, unchanged}
 use Rattle.volume_steps.specs.Plain.{IsPlainNow}
 use Rattle.volume_steps.specs.Calls.{called, called_by, changed}
 use Rattle.volume_steps.specs.Called.{FindsRoom}
@@ -75,7 +74,7 @@ may_be_done v n number c plain none is = by (outcome (room_of v.geometry) (tree_
 
 -- ---- how much it tells
 
-reading_changes : (v : VolumeNow) (n tx : ℕ) (c : Call) → is_reading (kind_of c) ≡ true → (changed v n tx c).touched ≡ untouched
+reading_changes : (v : VolumeNow) (n tx : ℕ) (c : Call) → is_reading (kind_of c) ≡ true → changed v n tx c ≡ unchanged v
 unfolding changed
 reading_changes v n tx (calls.Mkdir path) e = absurd (false≢true e)
 reading_changes v n tx (calls.Create path) e = absurd (false≢true e)
@@ -88,16 +87,17 @@ reading_changes v n tx (calls.Truncate path size) e = absurd (false≢true e)
 reading_changes v n tx (calls.Rename path other) e = absurd (false≢true e)
 reading_changes v n tx other e = refl
 
-reading_tells : (v : VolumeNow) (n tx : ℕ) (c : Call) → is_reading (kind_of c) ≡ true → (called v n tx c).change.touched ≡ untouched
+-- a call that reads leaves all as it was
+pub reading_keeps : (v : VolumeNow) (n tx : ℕ) (c : Call) → is_reading (kind_of c) ≡ true → (called v n tx c).change ≡ unchanged v
 unfolding called
-reading_tells v n tx c e = by (outcome (room_of v.geometry) (tree_of_now v) n c)
+reading_keeps v n tx c e = by (outcome (room_of v.geometry) (tree_of_now v) n c)
   where
-    by : (r : Row) → (called_by v n tx c r).change.touched ≡ untouched
+    by : (r : Row) → (called_by v n tx c r).change ≡ unchanged v
     by (Err why) = refl
     by (Ok d) = reading_changes v n tx c e
 
 pub reading_notes : (v : VolumeNow) (n tx : ℕ) (c : Call) → is_reading (kind_of c) ≡ true → notes_in (called v n tx c).change.touched ≤ 0
-reading_notes v n tx c e = (let none = ap notes_in (reading_tells v n tx c e) in omega (arith, none))
+reading_notes v n tx c e = (let none = ap (λ (x : Change). notes_in x.touched) (reading_keeps v n tx c e) in omega (arith, none))
 
 pub reading_pages : (v : VolumeNow) (n tx : ℕ) (c : Call) → is_reading (kind_of c) ≡ true → length (called v n tx c).change.touched.pages ≤ 0
-reading_pages v n tx c e = (let none = ap (λ (t : Touched). length t.pages) (reading_tells v n tx c e) in omega (arith, none))
+reading_pages v n tx c e = (let none = ap (λ (x : Change). length x.touched.pages) (reading_keeps v n tx c e) in omega (arith, none))

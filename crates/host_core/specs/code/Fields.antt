@@ -9,6 +9,8 @@ use Rattle.host_machine.specs.State as machine
 use Rattle.host_core.specs.Now.{HostNow}
 use Rattle.host_core.specs.Entries.{entry_in, ended_by, ArePlaced}
 use Rattle.host_answers.specs.declared.entry.Entry.{Entry}
+use Rattle.host_core.specs.code.Known.{IsKnown}
+use Rattle.host_core.specs.declared.known.Known.{Known}
 use Rattle.host_core.specs.declared.thread.Thread.{Thread}
 
 -- the calls that are left
@@ -45,13 +47,15 @@ pub record AreNoted (threads : List Thread) (history : List Entry) : Type 0 wher
 pub record KeepsNotes (thread : ℕ) (old new : Thread) (history more : List Entry) : Type 0 where
   pub noted : (threads : List Thread) → slice_get threads (thread - 1) ≡ Some old → AreNoted threads history → AreNoted (set threads (thread - 1) new) more
 
--- The journal is over the volume's blocks, and has a wait for each thread, and the entries so far are noted.
-pub record IsHost (j : CommitActor) (v : VolumeNow) (threads : List Thread) (history : List Entry) : Type 0 where
+-- The journal is over the volume's blocks, and has a wait for each thread, the entries so far are noted, and what is known
+-- of the volume is so.
+pub record IsHost (j : CommitActor) (v : VolumeNow) (k : Known) (threads : List Thread) (history : List Entry) : Type 0 where
   pub blocks : j.blocks ≡ v.geometry.zones
   pub waits : length j.part.flush.waits ≡ length threads
   pub few : length threads < 2 ^ 32
   pub within : AreWithin threads
   pub noted : AreNoted threads history
+  pub known : IsKnown (map program_of threads) v k
 
 -- this is the thread at a place, and its next call, with the rest behind it
 pub record IsNext (threads : List Thread) (at : ℕ) (t : Thread) (c : Call) (rest : List Call) : Type 0 where

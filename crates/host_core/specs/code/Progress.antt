@@ -127,6 +127,10 @@ abbrev pub is_queue_full : CallProgress → Bool
 is_queue_full (found.Waiting reasons.QueueFull) = true
 is_queue_full other = false
 
+abbrev pub is_waiting : CallProgress → Bool
+is_waiting (found.Waiting cause) = true
+is_waiting other = false
+
 -- the parts as the code has them
 abbrev pub parts_now : HostParts → CallParts
 parts_now p = record { journal = p.journal.part; volume = p.volume; pages = p.pages.pages; owners = p.owners.items }

@@ -6,19 +6,21 @@ ghost use Rattle.host_core.specs.effects.Effects.{with_part};
 ghost use Rattle.host_core.specs.at_once.Steps.{wanting, hindered, hinders};
 ghost use Rattle.host_core.specs.at_once.code.Told.{progress_is};
 ghost use Rattle.host_core.specs.at_once.code.Waiting.{waits_below};
+ghost use Rattle.host_core.specs.code.Known.{AreToCome};
 
 use crate::at_once::PlainProgress;
 use crate::gates::PlainVolume;
+use crate::known::ZonesToCome;
 use blk_base::NoMemory;
 use commit_actor::JournalPart;
 use host_answers::Cause;
 
-// How many zones the commit of transactions below the running one will free.
-fn zones_to_come(journal: &JournalPart, volume: &PlainVolume) -> Result<u32, NoMemory>
-    ensures ok { IfOk result (λ n. n ≡ waits_below volume.now journal.now.part.running.number) }
-    ensures great { OnErr result (2 ^ 32 < journal.now.part.running.number) }
+// How many zones wait for transactions before this one.
+fn zones_before(volume: &PlainVolume, number: u64) -> Result<u32, NoMemory>
+    ensures ok { IfOk result (λ n. n ≡ waits_below volume.now number) }
+    ensures great { OnErr result (2 ^ 32 < number) }
 {
-    let Some(last) = journal.running().number().checked_sub(1) else {
+    let Some(last) = number.checked_sub(1) else {
         return Ok(0);
     };
     match u32::try_from(last) {
@@ -27,14 +29,44 @@ fn zones_to_come(journal: &JournalPart, volume: &PlainVolume) -> Result<u32, NoM
     }
 }
 
+// How many zones the commit of transactions below the running one will free. The map of zones is asked once, until it
+// changes.
+fn zones_to_come(
+    journal: &JournalPart,
+    volume: &PlainVolume,
+    known: &mut Option<ZonesToCome>,
+) -> Result<u32, NoMemory>
+    requires known { AreToCome volume.now known.old }
+    ensures ok { IfOk result (λ n. n ≡ waits_below volume.now journal.now.part.running.number) }
+    ensures great { OnErr result (2 ^ 32 < journal.now.part.running.number) }
+    ensures known { AreToCome volume.now known.new }
+{
+    let before = journal.running().number();
+    if let Some(found) = *known
+        && found.before == before
+    {
+        return Ok(found.zones);
+    }
+    let zones = zones_before(volume, before)?;
+    *known = Some(ZonesToCome { before, zones });
+    Ok(zones)
+}
+
 // Whether a call that waits for this wants the running transaction closed.
-fn wants_closed(journal: &JournalPart, volume: &PlainVolume, cause: Cause) -> Result<bool, NoMemory>
+fn wants_closed(
+    journal: &JournalPart,
+    volume: &PlainVolume,
+    cause: Cause,
+    known: &mut Option<ZonesToCome>,
+) -> Result<bool, NoMemory>
+    requires known { AreToCome volume.now known.old }
     ensures ok { IfOk result (λ wants. (if wants then wanting journal.now.part else journal.now.part) ≡ hindered volume.now (cause_is cause) journal.now.part) }
     ensures great { OnErr result (2 ^ 32 < journal.now.part.running.number) }
+    ensures known { AreToCome volume.now known.new }
 {
     match cause {
         Cause::TxFull(_) => Ok(true),
-        Cause::Quarantine(lacks) => Ok(zones_to_come(journal, volume)? < lacks),
+        Cause::Quarantine(lacks) => Ok(zones_to_come(journal, volume, known)? < lacks),
         _ => Ok(false),
     }
 }
@@ -45,18 +77,21 @@ pub fn hinder(
     journal: &mut JournalPart,
     volume: &PlainVolume,
     cause: Cause,
+    known: &mut Option<ZonesToCome>,
 ) -> Result<PlainProgress, NoMemory>
+    requires known { AreToCome volume.now known.old }
     ensures step { (ps : List CachedPage) (os : List ℕ) → IfOk result (λ p.
         record { parts = record { journal = journal.new.part; volume = volume.now; pages = ps; owners = os }; progress = progress_is p } ≡
         hinders (record { journal = journal.old.part; volume = volume.now; pages = ps; owners = os }) (cause_is cause)) }
     ensures err { OnErr result (journal.new ≡ journal.old) }
     ensures great { OnErr result (2 ^ 32 < journal.old.part.running.number) }
     ensures same { journal.new ≡ with_part journal.old journal.old.spare journal.new.part }
+    ensures known { AreToCome volume.now known.new }
 {
     if journal.flush().at_limit() {
         return Ok(PlainProgress::Full);
     }
-    if wants_closed(journal, volume, cause)? {
+    if wants_closed(journal, volume, cause, known)? {
         journal.want_closed();
     }
     Ok(PlainProgress::Waiting(cause))

@@ -2,28 +2,36 @@
 ghost use Rattle.std.specs.Prelude.{◌≡◌, length};
 ghost use Rattle.std.specs.Option.{option_map};
 ghost use Rattle.host_core.specs.begun.Causes.{cause_is};
-ghost use Rattle.minix_host.specs.Calls.{needed};
+ghost use Rattle.minix_host.specs.Calls.{needed, would_change};
 ghost use Rattle.minix_host.specs.Volumes.{zones_of};
 ghost use Rattle.host_core.specs.gates.Hindrances.{hindrance_of};
 
-use crate::gates::asking::would_change;
 use commit_actor::JournalPart;
 use host_answers::Cause;
 use tree_model::Call;
 use volume_calls::PlainVolume;
 
-/// Why a call that nothing refuses and that would take so many zones has to wait, if it does: the running transaction is
-/// being closed, or is full, or too few zones are free.
+/// What a call asks of the host that nothing refuses: whether it would change the tree or a page, and how many zones it
+/// would take.
+#[derive(Clone, Copy, Debug, PartialEq, Eq)]
+pub struct Needs {
+    pub changes: bool,
+    pub zones: u32,
+}
+
+/// Why a call that nothing refuses and that needs this has to wait, if it does: the running transaction is being closed, or
+/// is full, or too few zones are free.
 pub fn hindrance(
     journal: &JournalPart,
     volume: &PlainVolume,
     call: &Call,
-    needs: u32,
+    needs: Needs,
 ) -> Option<Cause>
-    requires { needs ≡ needed volume.now call.now }
+    requires changes { needs.changes ≡ would_change volume.now call.now }
+    requires zones { needs.zones ≡ needed volume.now call.now }
     ensures { option_map cause_is result ≡ hindrance_of journal.now volume.now call.now }
 {
-    if !would_change(volume, call) {
+    if !needs.changes {
         return None;
     }
     if journal.is_closing() {
@@ -34,8 +42,8 @@ pub fn hindrance(
         return Some(Cause::TxFull(running.needs()));
     }
     let free = free_zones(volume);
-    if free < needs {
-        return Some(Cause::Quarantine(needs - free));
+    if free < needs.zones {
+        return Some(Cause::Quarantine(needs.zones - free));
     }
     None
 }

@@ -9,7 +9,7 @@ pub returns-in-Waiting-clause-same : goal.returns-in-Waiting-clause-same
 returns-in-Waiting-clause-same g c =
     let old = c.args.parts.now in
     let go = c.go_on in
-    let new : HostParts = record { journal = go.new.journal; volume = old.volume; pages = go.new.pages; owners = old.owners } in
+    let new : HostParts = record { journal = go.new.journal; volume = old.volume; pages = go.new.pages; owners = old.owners; known = old.known } in
     let p = c.in_ok-go_on.field-0 in
     going_kept old new (found_queue_full p) c.args.thread (slice_index_or old.journal.part.flush.waits c.args.thread no_wait) c.args.begun.now go.new.journal.part go.new.pages.pages
     (gone_by c.args.begun.now.list go.new.journal.part go.new.pages.pages p) refl c.in_ok-go_on.ensures.step c.in_ok-go_on.ensures.same refl

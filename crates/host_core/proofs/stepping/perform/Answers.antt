@@ -17,7 +17,7 @@ pub returns-in_err-of-in-Answered-clause-err : goal.returns-in_err-of-in-Answere
 returns-in_err-of-in-Answered-clause-err c =
     let old = c.args.parts.now in
     let s = c.step_plainly.new in
-    let new : HostParts = record { journal = s.journal; volume = s.volume; pages = s.pages; owners = s.owners } in
+    let new : HostParts = record { journal = s.journal; volume = s.volume; pages = s.pages; owners = s.owners; known = s.known } in
     any_err c.from_residual-in_err-of-in-Answered.result
     (list_still (writers old.journal.made_with) old.volume.geometry.zmap (quota old.journal.made_with) (parts_now old) c.args.number c.args.call.now (parts_now new) c.in-Answered.reply
     (ap (went (parts_now new)) (sym c.in-Answered.is) ∙ c.in_ok-reply.ensures.step) c.in_err-of-in-Answered.ensures.err)
@@ -26,19 +26,19 @@ pub returns-in_err-of-in-Answered-clause-same : goal.returns-in_err-of-in-Answer
 returns-in_err-of-in-Answered-clause-same c =
     let old = c.args.parts.now in
     let s = c.step_plainly.new in
-    let new : HostParts = record { journal = s.journal; volume = s.volume; pages = s.pages; owners = s.owners } in
+    let new : HostParts = record { journal = s.journal; volume = s.volume; pages = s.pages; owners = s.owners; known = s.known } in
     plain_kept old new (writers old.journal.made_with) old.volume.geometry.zmap (quota old.journal.made_with) c.args.number c.args.call.now (progress_is c.in_ok-reply.field-0) c.in_ok-reply.ensures.step c.in_ok-reply.ensures.same
 
 pub returns-in_ok-of-in-Answered-clause-same : goal.returns-in_ok-of-in-Answered-clause-same
 returns-in_ok-of-in-Answered-clause-same c =
     let old = c.args.parts.now in
     let s = c.step_plainly.new in
-    let new : HostParts = record { journal = s.journal; volume = s.volume; pages = s.pages; owners = s.owners } in
+    let new : HostParts = record { journal = s.journal; volume = s.volume; pages = s.pages; owners = s.owners; known = s.known } in
     plain_kept old new (writers old.journal.made_with) old.volume.geometry.zmap (quota old.journal.made_with) c.args.number c.args.call.now (progress_is c.in_ok-reply.field-0) c.in_ok-reply.ensures.step c.in_ok-reply.ensures.same
 
 pub returns-in-Waiting-clause-same : goal.returns-in-Waiting-clause-same
 returns-in-Waiting-clause-same c =
     let old = c.args.parts.now in
     let s = c.step_plainly.new in
-    let new : HostParts = record { journal = s.journal; volume = s.volume; pages = s.pages; owners = s.owners } in
+    let new : HostParts = record { journal = s.journal; volume = s.volume; pages = s.pages; owners = s.owners; known = s.known } in
     plain_kept old new (writers old.journal.made_with) old.volume.geometry.zmap (quota old.journal.made_with) c.args.number c.args.call.now (progress_is c.in_ok-reply.field-0) c.in_ok-reply.ensures.step c.in_ok-reply.ensures.same

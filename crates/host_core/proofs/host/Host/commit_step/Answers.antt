@@ -29,7 +29,7 @@ returns-clause-step g c told =
     commit_done (model_now h) (setup_now h) h.host q c.commit_step-turn.new.part.part c.release_closed.new.volume c.commit_step-turn.new.pages.pages c.note_cut.new.cuts.items t
     c.builds_plan-builds.result c.committing-before.result c.committing.result c.len.result
     c.builds_plan-builds.ensures c.committing-before.ensures c.committing.ensures (omega (arith, c.len.ensures, i.history.ok.0, size))
-    c.release_closed.ensures (c.note_cut.ensures ∙ ap (cuts_after c.builds_plan-builds.result c.len.result) c.reserve_cut.ensures.same) (c.commit_step-turn.ensures.step told)
+    c.release_closed.ensures.volume (c.note_cut.ensures ∙ ap (cuts_after c.builds_plan-builds.result c.len.result) c.reserve_cut.ensures.same) (c.commit_step-turn.ensures.step told)
     ∙ ap (λ (x : HostNow). machine.commit_step (model_now x) (setup_now x) q x.host) c.self.view_is
 
 pub invariant_of-self-2 : goal.invariant_of-self-2
@@ -42,7 +42,8 @@ invariant_of-self-2 g c =
       | in-NoMemory w ↦ absurd (true≢false (sym w.matches-is ∙ c.if-matches.false))
       | in_default w ↦ w.in_default.not-NoMemory
     ] in
-    kept i.parts.journal c.commit_step-turn.new.part i.parts.volume c.release_closed.new.volume i.threads.items i.history.items c.self.invariant (ap (λ (a : CommitActor). a.blocks) e.same)
-    (ap (λ (v : VolumeNow). v.geometry) c.release_closed.ensures ∙ released_same c.committing-before.result c.committing.result i.parts.volume)
+    kept i.parts.journal c.commit_step-turn.new.part i.parts.volume c.release_closed.new.volume i.parts.known c.release_closed.new.known i.threads.items i.history.items c.self.invariant (ap (λ (a : CommitActor). a.blocks) e.same)
+    (ap (λ (v : VolumeNow). v.geometry) c.release_closed.ensures.volume ∙ released_same c.committing-before.result c.committing.result i.parts.volume)
     (ap (λ (x : CommitTurn). length x.part.flush.waits) (e.step told)
     ∙ commit_keeps (writers i.parts.journal.made_with) i.parts.journal.journal i.parts.journal.made_with.sequence (is_queue_full t) (λ b. disk_of i.parts.volume.contents.blocks b) i.parts.journal.part i.parts.pages.pages)
+    c.release_closed.ensures.known

@@ -16,5 +16,5 @@ pub invariant_of-result : goal.invariant_of-result
 invariant_of-result c =
     let ts = c.into_threads-threads in
     let zones = ap (λ (g : Geometry). g.zones) c.geometry.ensures in
-    made_is_host c.in-Ok.journal c.args.volume c.args.volume ts.result.items c.new.result.items c.args.ring c.args.programs c.geometry.result.now.zones c.len.result
-    c.in-Ok.ensures.journal refl zones (omega (arith, c.len.ensures, ts.result.ok.0)) ts.ensures.programs c.requires.threads ts.ensures.fresh c.new.ensures.items
+    made_is_host c.in-Ok.journal c.args.volume c.args.volume c.in-Ok.known ts.result.items c.new.result.items c.args.ring c.args.programs c.geometry.result.now.zones c.len.result
+    c.in-Ok.ensures.journal refl zones (omega (arith, c.len.ensures, ts.result.ok.0)) ts.ensures.programs c.requires.threads ts.ensures.fresh c.new.ensures.items c.in-Ok.ensures.calls c.in-Ok.ensures.to_come

@@ -5,7 +5,7 @@ use Rattle.flush_actor.specs.Steps.{FlushTurn}
 use Rattle.host_machine.specs.Host as machine
 use Rattle.host_core.specs.Now.{HostNow, model_now, setup_now}
 use Rattle.host_core.specs.code.Fields.{host_of}
-use Rattle.host_core.proofs.Kept.{kept}
+use Rattle.host_core.proofs.Kept.{kept, known_still}
 use Rattle.host_core.proofs.Turns.{take_done}
 use Rattle.host_core.proofs.WaitsKept.{take_keeps}
 use Rattle.host_core.proofs.host.Host.take_step.Goals as goal
@@ -14,8 +14,8 @@ pub invariant_of-self : goal.invariant_of-self
 invariant_of-self g c =
     let e = c.take_step.ensures in
     let i = c.self.inside in
-    kept i.parts.journal c.take_step.new.self i.parts.volume i.parts.volume i.threads.items i.history.items c.self.invariant (ap (λ (a : CommitActor). a.blocks) e.same) refl
-    (ap (λ (x : FlushTurn). length x.part.waits) e.step ∙ take_keeps (first_since (g.I.Inlet.taken c.args.from.now) (g.I.Inlet.taken c.take_step.new.from)) i.parts.journal.part.flush)
+    kept i.parts.journal c.take_step.new.self i.parts.volume i.parts.volume i.parts.known i.parts.known i.threads.items i.history.items c.self.invariant (ap (λ (a : CommitActor). a.blocks) e.same) refl
+    (ap (λ (x : FlushTurn). length x.part.waits) e.step ∙ take_keeps (first_since (g.I.Inlet.taken c.args.from.now) (g.I.Inlet.taken c.take_step.new.from)) i.parts.journal.part.flush) (known_still i.parts.volume i.parts.known)
 
 pub returns-clause-step : goal.returns-clause-step
 returns-clause-step g c =
