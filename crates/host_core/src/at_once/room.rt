@@ -14,7 +14,7 @@ use std::alloc::Global;
 use tree_model::Call;
 
 // The most that a call tells.
-#[derive(Clone, Copy, PartialEq, Eq, Debug)]
+#[derive(Clone, Copy)]
 pub struct Most {
     pub notes: u32,
     pub pages: u32,

@@ -23,7 +23,7 @@ use std::alloc::Global;
 use tree_model::{Call, Reply};
 
 /// How far a plain call came.
-#[derive(Drop, Debug)]
+#[derive(Drop)]
 pub enum PlainProgress {
     Answered(Reply),
     /// The session may have no more requests.

@@ -15,7 +15,7 @@ use flush_actor::{CallKind, Wait};
 use host_answers::Cause;
 
 /// How far a begun call came.
-#[derive(Clone, Copy, PartialEq, Eq, Debug)]
+#[derive(Clone, Copy)]
 pub enum BegunProgress {
     /// It is answered: what it asked for holds.
     Answered,
@@ -32,7 +32,7 @@ pub enum BegunProgress {
 }
 
 // What a call does when no page is left.
-#[derive(Clone, Copy, PartialEq, Eq, Debug)]
+#[derive(Clone, Copy)]
 pub enum Goal {
     AwaitCommit(u64),
     AnswerOk,

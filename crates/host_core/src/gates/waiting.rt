@@ -13,7 +13,7 @@ use volume_calls::PlainVolume;
 
 /// What a call asks of the host that nothing refuses: whether it would change the tree or a page, and how many zones it
 /// would take.
-#[derive(Clone, Copy, Debug, PartialEq, Eq)]
+#[derive(Clone, Copy)]
 pub struct Needs {
     pub changes: bool,
     pub zones: u32,

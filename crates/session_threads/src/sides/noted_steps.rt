@@ -10,7 +10,7 @@ use host_answers::{Cause, Step};
 use host_core::Host;
 
 /// What is compared of a host to find out whether a step that waits changed it.
-#[derive(Clone, Copy, PartialEq, Eq, Debug)]
+#[derive(Clone, Copy, PartialEq, Eq)]
 pub struct HostMarks {
     pub wanted: bool,
     pub wait: Wait,
