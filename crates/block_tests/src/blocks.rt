@@ -1,7 +1,7 @@
 //! Streams that fail, and blocks and images at concrete values.
-ghost use Rattle.std.specs.Prelude.{Some, ◌<◌};
+ghost use Rattle.std.specs.Prelude.{Some};
 
-use crate::same::{expect, expect_row};
+use crate::same::expect;
 use blk_base::{
     Block, Failed, Image, MemSink, MemSource, ReadEnd, Sink, SinkFault, Source, StdSink, StdSource,
     read_all, read_image, write_all,
@@ -65,114 +65,111 @@ impl Source for PieceSource<'_> {
     }
 }
 
+// How each read ends, and the buffer behind it.
+static READS: [(Result<usize, Failed>, [u8; 3]); 4] = [
+    (Ok(3), [1, 2, 3]),
+    (Err(Failed), [1, 2, 3]),
+    (Ok(2), [4, 5, 3]),
+    (Ok(0), [4, 5, 3]),
+];
+
 #[test]
 fn reads_in_pieces(rt: HostRuntime) {
     let bytes = [1, 2, 3, 4, 5].to_vec(rt.alloc()).expect(&rt, "no bytes");
     let fails = [2].to_vec(rt.alloc()).expect(&rt, "no calls");
     let mut source = MemSource::new(bytes, fails);
     let mut buf = [9; 3];
-    let came = [
-        (source.read(&mut buf), buf),
-        (source.read(&mut buf), buf),
-        (source.read(&mut buf), buf),
-        (source.read(&mut buf), buf),
-    ];
-    let wanted = [
-        (Ok(3), [1, 2, 3]),
-        (Err(Failed), [1, 2, 3]),
-        (Ok(2), [4, 5, 3]),
-        (Ok(0), [4, 5, 3]),
-    ];
-    expect(&rt, &came, &wanted);
+    for (row, wanted) in READS.iter().enumerate() {
+        let came = (source.read(&mut buf), buf);
+        expect(&rt, row, &came, wanted);
+    }
 }
 
-// The sink answers so, and has these bytes then.
-fn writes(
-    rt: &impl Abort,
-    row: usize,
-    sink: &mut MemSink,
-    bytes: &[u8],
-    answer: Result<usize, Failed>,
-    written: &[u8],
-) {
-    let came = sink.write(bytes);
-    expect_row(rt, row, &(came, sink.bytes()), &(answer, written));
+static STD_READS: [(Result<usize, Failed>, [u8; 2]); 3] = [
+    (Ok(2), [1, 2]),
+    (Ok(1), [3, 2]),
+    (Ok(0), [3, 2]),
+];
+
+#[test]
+fn reads_from_std(rt: HostRuntime) {
+    let bytes: &[u8] = &[1, 2, 3];
+    let mut source = StdSource::new(bytes);
+    let mut buf = [0; 2];
+    for (row, wanted) in STD_READS.iter().enumerate() {
+        let came = (source.read(&mut buf), buf);
+        expect(&rt, row, &came, wanted);
+    }
 }
+
+// What is written, how the write ends, and the sink's bytes behind it.
+static WRITES: [(&[u8], Result<usize, Failed>, &[u8]); 3] = [
+    (&[1, 2], Ok(2), &[1, 2]),
+    (&[3], Err(Failed), &[1, 2]),
+    (&[4], Ok(1), &[1, 2, 4]),
+];
 
 #[test]
 fn writes_in_memory(rt: HostRuntime) {
     let fails = [2].to_vec(rt.alloc()).expect(&rt, "no calls");
     let mut sink = MemSink::new(Vec::new(rt.alloc()), fails);
-    writes(&rt, 0, &mut sink, &[1, 2], Ok(2), &[1, 2]);
-    writes(&rt, 1, &mut sink, &[3], Err(Failed), &[1, 2]);
-    writes(&rt, 2, &mut sink, &[4], Ok(1), &[1, 2, 4]);
-}
-
-// The bytes of a source, its call that fails, how many are read at most, and how reading ends if not with all of them.
-type Whole = (&'static [u8], u64, u64, Option<ReadEnd>);
-
-static WHOLES: [Whole; 6] = [
-    (&[], 0, 0, None),
-    (&[7, 8, 9], 0, 3, None),
-    (&[7, 8, 9], 0, 2, Some(ReadEnd::TooLong)),
-    (&[7, 8, 9], 1, 3, Some(ReadEnd::Fault)),
-    (&[7, 8, 9], 2, 3, Some(ReadEnd::Fault)),
-    (&[0; 5000], 0, 5000, None),
-];
-
-// All bytes of the source, of which one call may fail, or how reading them ended.
-fn reading(
-    rt: &impl Abort,
-    alloc: Global,
-    bytes: &[u8],
-    fails: u64,
-    most: u64,
-) -> Result<Vec<u8>, ReadEnd> {
-    let bytes = bytes.to_vec(alloc).expect(rt, "no bytes");
-    let fails = [fails].to_vec(alloc).expect(rt, "no calls");
-    read_all(alloc, &mut MemSource::new(bytes, fails), most)
-}
-
-// Whether these bytes were read, or reading them ended so.
-fn is_read(came: &Result<Vec<u8>, ReadEnd>, bytes: &[u8], end: Option<ReadEnd>) -> bool {
-    match came {
-        Ok(read) => end.is_none() && read.as_slice() == bytes,
-        Err(came) => end == Some(*came),
+    for (row, (bytes, answer, written)) in WRITES.iter().enumerate() {
+        let came = sink.write(bytes);
+        expect(&rt, row, &(came, sink.bytes()), &(*answer, *written));
     }
 }
+
+#[test]
+fn writes_to_std(rt: HostRuntime) {
+    let mut out = Vec::new(rt.alloc());
+    let written = StdSink::new(&mut out).write(&[4, 5]);
+    expect(&rt, 0, &written, &Ok(2));
+    expect(&rt, 1, &out.as_slice(), &[4, 5].as_slice());
+}
+
+// The bytes of a source, its call that fails, how many are read at most, and how reading ends.
+static WHOLES: [(&[u8], u64, u64, Result<&[u8], ReadEnd>); 6] = [
+    (&[], 0, 0, Ok(&[])),
+    (&[7, 8, 9], 0, 3, Ok(&[7, 8, 9])),
+    (&[7, 8, 9], 0, 2, Err(ReadEnd::TooLong)),
+    (&[7, 8, 9], 1, 3, Err(ReadEnd::Fault)),
+    (&[7, 8, 9], 2, 3, Err(ReadEnd::Fault)),
+    (&[0; 5000], 0, 5000, Ok(&[0; 5000])),
+];
 
 #[test]
 fn reads_all(rt: HostRuntime) {
-    for (row, (bytes, fails, most, end)) in WHOLES.iter().enumerate() {
-        let came = reading(&rt, rt.alloc(), bytes, *fails, *most);
-        expect_row(&rt, row, &is_read(&came, bytes, *end), &true);
+    for (row, (bytes, fails, most, wanted)) in WHOLES.iter().enumerate() {
+        let bytes = bytes.to_vec(rt.alloc()).expect(&rt, "no bytes");
+        let fails = [*fails].to_vec(rt.alloc()).expect(&rt, "no calls");
+        let read = read_all(rt.alloc(), &mut MemSource::new(bytes, fails), *most);
+        let came = match &read {
+            Ok(read) => Ok(read.as_slice()),
+            Err(end) => Err(*end),
+        };
+        expect(&rt, row, &came, wanted);
     }
 }
 
-// The bytes 5, 6 and 7 are written to a sink whose call `fails` fails, by whose number the row is told.
-fn writes_row(
-    rt: &impl Abort,
-    alloc: Global,
-    fails: u64,
-    answer: Result<(), SinkFault>,
-    taken: &[u8],
-) {
-    let mut sink = ByteSink {
-        bytes: Vec::new(alloc),
-        calls: 0,
-        fails,
-        faults: 0,
-    };
-    let written = write_all(&mut sink, &[5, 6, 7]);
-    let came = (written, sink.bytes.as_slice());
-    expect_row(rt, fails as usize, &came, &(answer, taken));
-}
+// The call of the sink that fails, how writing the bytes 5, 6 and 7 ends, and what the sink took.
+static SINKS: [(u64, Result<(), SinkFault>, &[u8]); 3] = [
+    (0, Ok(()), &[5, 6, 7]),
+    (1, Err(SinkFault), &[]),
+    (3, Err(SinkFault), &[5, 6]),
+];
 
 #[test]
 fn writes_all(rt: HostRuntime) {
-    writes_row(&rt, rt.alloc(), 0, Ok(()), &[5, 6, 7]);
-    writes_row(&rt, rt.alloc(), 1, Err(SinkFault), &[]);
-    writes_row(&rt, rt.alloc(), 3, Err(SinkFault), &[5, 6]);
+    for (row, (fails, answer, taken)) in SINKS.iter().enumerate() {
+        let mut sink = ByteSink {
+            bytes: Vec::new(rt.alloc()),
+            calls: 0,
+            fails: *fails,
+            faults: 0,
+        };
+        let came = write_all(&mut sink, &[5, 6, 7]);
+        expect(&rt, row, &(came, sink.bytes.as_slice()), &(*answer, *taken));
+    }
 }
 
 #[test]
@@ -183,7 +180,36 @@ fn makes_blocks(rt: HostRuntime) {
     let bytes = block.as_slice();
     let is_same = copy == Block::fill(4);
     let came = (bytes[0], bytes[1022], bytes[1023], is_same);
-    expect(&rt, &came, &(4, 4, 6, true));
+    expect(&rt, 0, &came, &(4, 4, 6, true));
+}
+
+// The byte that fills a block, the place and the value of one that differs, and whether the block is zeros and which byte
+// fills it.
+static FILLS: [(u8, Option<(usize, u8)>, (bool, Option<u8>)); 12] = [
+    (0, None, (true, Some(0))),
+    (0, Some((0, 1)), (false, None)),
+    (0, Some((511, 1)), (false, None)),
+    (0, Some((1023, 1)), (false, None)),
+    (7, None, (false, Some(7))),
+    (7, Some((0, 6)), (false, None)),
+    (7, Some((511, 6)), (false, None)),
+    (7, Some((1023, 6)), (false, None)),
+    (255, None, (false, Some(255))),
+    (255, Some((0, 0)), (false, None)),
+    (255, Some((511, 0)), (false, None)),
+    (255, Some((1023, 0)), (false, None)),
+];
+
+#[test]
+fn sees_blocks_of_one_byte(rt: HostRuntime) {
+    for (row, (fill, other, wanted)) in FILLS.iter().enumerate() {
+        let mut block = Block::fill(*fill);
+        if let Some((at, byte)) = other {
+            assert!(rt; *at < 1024);
+            block.set(*at, *byte);
+        }
+        expect(&rt, row, &(block.is_zeros(), block.fill_byte()), wanted);
+    }
 }
 
 // The image has a block for each of these bytes, filled with it.
@@ -199,34 +225,88 @@ fn is_filled(image: &Image, fills: &[u8]) -> bool {
     true
 }
 
-fn expect_filled(rt: &impl Abort, image: &Image, fills: &[u8]) {
-    assert!(rt; is_filled(image, fills), "{fills:?}");
+// How bytes become an image.
+enum Way {
+    // From a source that gives so many bytes a call, and whose call of this number fails.
+    Pieces(usize, u64),
+    // From a source that gives what there is room for.
+    AtOnce,
+    // As they lie in memory.
+    Memory,
 }
 
-fn copy_of(rt: &impl Abort, alloc: Global, image: &Image) -> Image {
-    image.copy(alloc).expect(rt, "no copy")
-}
+// The bytes that fill the blocks, how many bytes lie behind them, how they are read and at most how many of them, and the
+// blocks that are read or how reading ends.
+type ImageRow = (
+    &'static [u8],
+    usize,
+    Way,
+    u64,
+    Result<&'static [u8], ReadEnd>,
+);
 
-// Each block is filled with the byte beside it.
-fn put_all(rt: &impl Abort, image: &mut Image, puts: &[(u32, u8)]) {
-    for (block, fill) in puts {
-        assert!(rt; *block < image.len());
-        image.put(*block, Block::fill(*fill));
-    }
-}
-
-// An image of so many blocks, of which some are filled.
-fn image_of(rt: &impl Abort, alloc: Global, blocks: u32, puts: &[(u32, u8)]) -> Image {
-    let mut image = Image::zeroed(alloc, blocks).expect(rt, "no image");
-    put_all(rt, &mut image, puts);
-    image
-}
-
-#[test]
-fn makes_images(rt: HostRuntime) {
-    let image = image_of(&rt, rt.alloc(), 3, &[(1, 8)]);
-    expect_filled(&rt, &copy_of(&rt, rt.alloc(), &image), &[0, 8, 0]);
-}
+// What is left behind the last whole block is no block, and counts among the bytes. Of 700 bytes a call most end within a
+// block, whose first bytes wait at the front of the buffer then. Calls fail in a block, behind one, where the end would be
+// told, and behind it.
+static IMAGES: [ImageRow; 21] = [
+    (&[], 0, Way::Pieces(1, 0), 0, Ok(&[])),
+    (&[], 0, Way::Pieces(700, 0), 0, Ok(&[])),
+    (&[], 0, Way::AtOnce, 0, Ok(&[])),
+    (&[], 1023, Way::Pieces(1, 0), 1023, Ok(&[])),
+    (&[], 1023, Way::Pieces(700, 0), 1023, Ok(&[])),
+    (&[], 1023, Way::AtOnce, 1023, Ok(&[])),
+    (
+        &[0, 7, 0, 0, 8, 9],
+        5,
+        Way::Pieces(1, 0),
+        6149,
+        Ok(&[0, 7, 0, 0, 8, 9]),
+    ),
+    (
+        &[0, 7, 0, 0, 8, 9],
+        5,
+        Way::Pieces(700, 0),
+        6149,
+        Ok(&[0, 7, 0, 0, 8, 9]),
+    ),
+    (
+        &[0, 7, 0, 0, 8, 9],
+        5,
+        Way::AtOnce,
+        6149,
+        Ok(&[0, 7, 0, 0, 8, 9]),
+    ),
+    (
+        &[0, 7, 0, 0, 8, 9],
+        5,
+        Way::Pieces(1, 0),
+        6148,
+        Err(ReadEnd::TooLong),
+    ),
+    (
+        &[0, 7, 0, 0, 8, 9],
+        5,
+        Way::Pieces(700, 0),
+        6148,
+        Err(ReadEnd::TooLong),
+    ),
+    (
+        &[0, 7, 0, 0, 8, 9],
+        5,
+        Way::AtOnce,
+        6148,
+        Err(ReadEnd::TooLong),
+    ),
+    (&[0, 0], 0, Way::Pieces(1, 0), 2047, Err(ReadEnd::TooLong)),
+    (&[0, 0], 0, Way::Pieces(700, 0), 2047, Err(ReadEnd::TooLong)),
+    (&[0, 0], 0, Way::AtOnce, 2047, Err(ReadEnd::TooLong)),
+    (&[4, 0], 1, Way::Pieces(1, 1), 2049, Err(ReadEnd::Fault)),
+    (&[4, 0], 1, Way::Pieces(1, 1000), 2049, Err(ReadEnd::Fault)),
+    (&[4, 0], 1, Way::Pieces(1, 1025), 2049, Err(ReadEnd::Fault)),
+    (&[4, 0], 1, Way::Pieces(1, 2050), 2049, Err(ReadEnd::Fault)),
+    (&[4, 0], 1, Way::Pieces(1, 2051), 2049, Ok(&[4, 0])),
+    (&[1, 2, 0], 1023, Way::Memory, 4095, Ok(&[1, 2, 0])),
+];
 
 // A block for each of these bytes, filled with it, and as many bytes more.
 fn bytes_of(rt: &impl Abort, alloc: Global, fills: &[u8], more: usize) -> Vec<u8> {
@@ -235,199 +315,113 @@ fn bytes_of(rt: &impl Abort, alloc: Global, fills: &[u8], more: usize) -> Vec<u8
         let added: Result<_, _> = bytes.extend_from_slice(&[*fill; 1024]);
         added.expect(rt, "no block");
     }
-    for _ in 0..more {
-        let pushed: Result<_, _> = bytes.push(3);
-        pushed.expect(rt, "no byte");
-    }
+    let added: Result<_, _> = bytes.extend_from_slice([3; 1023].get(..more).unwrap_or(&[]));
+    added.expect(rt, "no bytes");
     bytes
 }
 
-// The blocks of an image, each by the byte that fills it, or how reading it ends.
-type Blocks = Result<&'static [u8], ReadEnd>;
-
-fn is_wanted(came: &Result<Image, ReadEnd>, wanted: Blocks) -> bool {
-    match came {
-        Ok(image) => match wanted {
-            Ok(fills) => is_filled(image, fills),
-            Err(_) => false,
-        },
-        Err(end) => wanted.err() == Some(*end),
+fn image_by(alloc: Global, bytes: &[u8], way: &Way, most: u64) -> Result<Image, ReadEnd> {
+    match way {
+        Way::Pieces(piece, fails) => {
+            let mut source = PieceSource {
+                bytes,
+                piece: *piece,
+                calls: 0,
+                fails: *fails,
+                faults: 0,
+            };
+            read_image(alloc, &mut source, most)
+        }
+        Way::AtOnce => {
+            let bytes = bytes.to_vec(alloc)?;
+            read_image(alloc, &mut MemSource::new(bytes, Vec::new(alloc)), most)
+        }
+        Way::Memory => Ok(Image::from_bytes(alloc, bytes)?),
     }
 }
 
-// Whether the image is read, from a source that gives so many bytes a call.
-fn is_image(
-    alloc: Global,
-    bytes: &[u8],
-    piece: usize,
-    fails: u64,
-    most: u64,
-    wanted: Blocks,
-) -> bool {
-    let mut slow = PieceSource {
-        bytes,
-        piece,
-        calls: 0,
-        fails,
-        faults: 0,
-    };
-    is_wanted(&read_image(alloc, &mut slow, most), wanted)
-}
-
-// The same of a source that gives what there is room for.
-fn is_image_at_once(alloc: Global, bytes: Vec<u8>, most: u64, wanted: Blocks) -> bool {
-    let mut source = MemSource::new(bytes, Vec::new(alloc));
-    is_wanted(&read_image(alloc, &mut source, most), wanted)
-}
-
-// The blocks before the end, the bytes behind them, how many bytes are read at most, and what comes of it.
-type ImageRow = (&'static [u8], usize, u64, Blocks);
-
-// What is left behind the last whole block is no block, and counts among the bytes.
-static IMAGES: [ImageRow; 5] = [
-    (&[], 0, 0, Ok(&[])),
-    (&[], 1023, 1023, Ok(&[])),
-    (&[0, 7, 0, 0, 8, 9], 5, 6149, Ok(&[0, 7, 0, 0, 8, 9])),
-    (&[0, 7, 0, 0, 8, 9], 5, 6148, Err(ReadEnd::TooLong)),
-    (&[0, 0], 0, 2047, Err(ReadEnd::TooLong)),
-];
-
-// Whether the row is right with 1 and with 700 bytes a call, and at once.
-fn reads_image(rt: &impl Abort, alloc: Global, row: &ImageRow) -> [bool; 3] {
-    let (fills, more, most, wanted) = *row;
-    let bytes = bytes_of(rt, alloc, fills, more);
-    let slow = is_image(alloc, &bytes, 1, 0, most, wanted);
-    let uneven = is_image(alloc, &bytes, 700, 0, most, wanted);
-    [slow, uneven, is_image_at_once(alloc, bytes, most, wanted)]
-}
-
-// Of 700 bytes a call most end within a block, whose first bytes wait at the front of the buffer then.
 #[test]
 fn reads_images(rt: HostRuntime) {
-    for (at, row) in IMAGES.iter().enumerate() {
-        let came = reads_image(&rt, rt.alloc(), row);
-        expect_row(&rt, at, &came, &[true; 3]);
+    for (row, (fills, more, way, most, wanted)) in IMAGES.iter().enumerate() {
+        let bytes = bytes_of(&rt, rt.alloc(), fills, *more);
+        let is_wanted = match image_by(rt.alloc(), &bytes, way, *most) {
+            Ok(image) => wanted.is_ok_and(|fills| is_filled(&image, fills)),
+            Err(end) => *wanted == Err(end),
+        };
+        expect(&rt, row, &is_wanted, &true);
     }
 }
 
-// The call that fails, by which the row is told: in a block, behind one, where the end would be told, and behind it.
-static FAULTS: [(u64, Blocks); 5] = [
-    (1, Err(ReadEnd::Fault)),
-    (1000, Err(ReadEnd::Fault)),
-    (1025, Err(ReadEnd::Fault)),
-    (2050, Err(ReadEnd::Fault)),
-    (2051, Ok(&[4, 0])),
+enum Step {
+    Put(u32, u8),
+    Push(u8),
+}
+
+// How many blocks of zeros there are, what is written then, and the bytes that fill the blocks in the end. Blocks are
+// written over, also with zeros, and the last of them while there are as many bodies as blocks. An image that grows is
+// then written as one that was made.
+static WRITTEN: [(u32, &[Step], &[u8]); 3] = [
+    (3, &[Step::Put(1, 8)], &[0, 8, 0]),
+    (
+        3,
+        &[
+            Step::Put(2, 7),
+            Step::Put(0, 5),
+            Step::Put(2, 0),
+            Step::Put(1, 0),
+            Step::Put(2, 9),
+            Step::Put(1, 6),
+            Step::Put(0, 0),
+        ],
+        &[0, 6, 9],
+    ),
+    (
+        1,
+        &[
+            Step::Push(6),
+            Step::Push(0),
+            Step::Push(8),
+            Step::Put(0, 5),
+            Step::Put(1, 0),
+            Step::Put(2, 7),
+            Step::Push(9),
+        ],
+        &[5, 0, 7, 8, 9],
+    ),
 ];
 
-#[test]
-fn fails_to_read_images(rt: HostRuntime) {
-    let bytes = bytes_of(&rt, rt.alloc(), &[4, 0], 1);
-    for (fails, wanted) in &FAULTS {
-        let is_wanted = is_image(rt.alloc(), &bytes, 1, *fails, 2049, *wanted);
-        expect_row(&rt, *fails as usize, &is_wanted, &true);
+fn write_step(rt: &impl Abort, image: &mut Image, step: &Step) {
+    match step {
+        Step::Put(at, fill) => {
+            assert!(rt; *at < image.len());
+            image.put(*at, Block::fill(*fill));
+        }
+        Step::Push(fill) => {
+            let pushed: Result<_, _> = image.push(Block::fill(*fill));
+            pushed.expect(rt, "no block");
+        }
     }
 }
 
-fn push_all(rt: &impl Abort, image: &mut Image, fills: &[u8]) {
-    for fill in fills {
-        let pushed: Result<_, _> = image.push(Block::fill(*fill));
-        pushed.expect(rt, "no block");
+// Each front of the image, and its copy, has blocks that are filled with these bytes.
+fn are_filled(rt: &impl Abort, alloc: Global, image: &Image, fills: &[u8]) -> bool {
+    for blocks in 0..image.len() {
+        let front = image.front(alloc, blocks).expect(rt, "no front");
+        if !is_filled(&front, fills.get(..blocks as usize).unwrap_or(fills)) {
+            return false;
+        }
     }
-}
-
-// An image that grows, and is then written as one that was made.
-#[test]
-fn grows_images(rt: HostRuntime) {
-    let mut image = image_of(&rt, rt.alloc(), 1, &[]);
-    push_all(&rt, &mut image, &[6, 0, 8]);
-    put_all(&rt, &mut image, &[(0, 5), (1, 0), (2, 7)]);
-    push_all(&rt, &mut image, &[9]);
-    expect_filled(&rt, &image, &[5, 0, 7, 8, 9]);
-}
-
-// Whether so many blocks from the front are filled with these bytes.
-fn is_front(rt: &impl Abort, alloc: Global, image: &Image, fills: &[u8]) -> bool {
-    assert!(rt; fills.len() <= image.len() as usize);
-    let front = image
-        .front(alloc, fills.len() as u32)
-        .expect(rt, "no front");
-    is_filled(&front, fills)
-}
-
-// Blocks are written over, also with zeros, and the last of them while there are as many bodies as blocks.
-#[test]
-fn writes_over_blocks(rt: HostRuntime) {
-    let puts = [(2, 7), (0, 5), (2, 0), (1, 0), (2, 9), (1, 6), (0, 0)];
-    let image = image_of(&rt, rt.alloc(), 3, &puts);
-    let came = [
-        is_filled(&image, &[0, 6, 9]),
-        is_front(&rt, rt.alloc(), &image, &[0, 6]),
-        is_front(&rt, rt.alloc(), &image, &[]),
-        is_filled(&copy_of(&rt, rt.alloc(), &image), &[0, 6, 9]),
-    ];
-    expect(&rt, &came, &[true; 4]);
-}
-
-// Whether a block is zeros, and which byte fills it.
-type Seen = (bool, Option<u8>);
-
-// The block of one byte, but for another at this place.
-fn seen_mixed(fill: u8, at: usize, other: u8) -> Seen
-    requires { at < 1024 }
-{
-    let mut block = Block::fill(fill);
-    block.set(at, other);
-    (block.is_zeros(), block.fill_byte())
-}
-
-// The byte of a block that is filled with it, and the block with one byte that differs, at each end and within.
-fn seen(fill: u8, other: u8) -> (Option<u8>, [Seen; 3]) {
-    let mixed = [
-        seen_mixed(fill, 0, other),
-        seen_mixed(fill, 511, other),
-        seen_mixed(fill, 1023, other),
-    ];
-    (Block::fill(fill).fill_byte(), mixed)
-}
-
-// One byte of 1,024 that differs.
-#[test]
-fn sees_blocks_of_one_byte(rt: HostRuntime) {
-    let is_zeros = Block::fill(0).is_zeros();
-    let came = [seen(0, 1), seen(7, 6), seen(255, 0)];
-    let wanted = [
-        (Some(0), [(false, None); 3]),
-        (Some(7), [(false, None); 3]),
-        (Some(255), [(false, None); 3]),
-    ];
-    expect(&rt, &(is_zeros, came), &(true, wanted));
-}
-
-// What is left behind the last whole block is no block.
-#[test]
-fn cuts_bytes_into_blocks(rt: HostRuntime) {
-    let bytes = bytes_of(&rt, rt.alloc(), &[1, 2, 0], 1023);
-    let image = Image::from_bytes(rt.alloc(), &bytes).expect(&rt, "no image");
-    expect_filled(&rt, &image, &[1, 2, 0]);
+    is_filled(&image.copy(alloc).expect(rt, "no copy"), fills)
 }
 
 #[test]
-fn reads_from_std(rt: HostRuntime) {
-    let bytes: &[u8] = &[1, 2, 3];
-    let mut source = StdSource::new(bytes);
-    let mut buf = [0; 2];
-    let came = [
-        (source.read(&mut buf), buf),
-        (source.read(&mut buf), buf),
-        (source.read(&mut buf), buf),
-    ];
-    let wanted = [(Ok(2), [1, 2]), (Ok(1), [3, 2]), (Ok(0), [3, 2])];
-    expect(&rt, &came, &wanted);
-}
-
-#[test]
-fn writes_to_std(rt: HostRuntime) {
-    let mut out = Vec::new(rt.alloc());
-    let written = StdSink::new(&mut out).write(&[4, 5]);
-    expect(&rt, &(written, out.as_slice()), &(Ok(2), [4, 5].as_slice()));
+fn writes_images(rt: HostRuntime) {
+    for (row, (zeros, steps, fills)) in WRITTEN.iter().enumerate() {
+        let mut image = Image::zeroed(rt.alloc(), *zeros).expect(&rt, "no image");
+        for it in *steps {
+            write_step(&rt, &mut image, it);
+        }
+        let copied = are_filled(&rt, rt.alloc(), &image, fills);
+        expect(&rt, row, &(is_filled(&image, fills), copied), &(true, true));
+    }
 }

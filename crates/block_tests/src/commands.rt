@@ -1,29 +1,23 @@
 //! Tests: parts, commands, lists and queues of a few items.
 ghost use Rattle.std.specs.Prelude.{◌≡◌, ◌≤◌, ◌<◌, length};
 
-use crate::same::{expect, expect_row};
+use crate::same::expect;
 use blk_base::Block;
 use order_model::{
     Command, Commands, Completion, History, Inlet, Kind, ListQueue, Outlet, Part, Parts, Priority,
     Request, Tally,
 };
-use std::alloc::Global;
 use std::process::Abort;
 
-// A part whose body is its block's number, over and over.
-fn part(id: u64, block: u8) -> Part {
+// A part whose body is its block's number, over and over, but for the last byte.
+fn part(id: u64, block: u8, last: u8) -> Part {
+    let mut body = Block::fill(block);
+    body.set(1023, last);
     Part {
         id,
         block: u32::from(block),
-        body: Block::fill(block),
+        body,
     }
-}
-
-// A part whose body has one byte that is another.
-fn mixed(id: u64, block: u8) -> Part {
-    let mut part = part(id, block);
-    part.body.set(1023, 200);
-    part
 }
 
 // Puts two numbers by the bounds alone, and takes one.
@@ -31,6 +25,13 @@ fn passes<Q: Outlet<u32> + Inlet<u32>>(
     queue: &mut Q,
 ) -> (Result<(), u32>, Result<(), u32>, Option<u32>) {
     (queue.put(7), queue.put(8), queue.take())
+}
+
+#[test]
+fn queue_by_its_bounds(rt: HostRuntime) {
+    let mut queue = ListQueue::make(rt.alloc(), 1).expect(&rt, "no queue");
+    let came = passes(&mut queue);
+    expect(&rt, 0, &came, &(Ok(()), Err(8), Some(7)));
 }
 
 // The number that is put, if one is, or else one is taken; and the number that comes back.
@@ -49,89 +50,87 @@ static STEPS: [(Option<u32>, Option<u32>); 12] = [
     (None, None),
 ];
 
-fn plays(rt: &impl Abort, queue: &mut ListQueue<u32>) {
+#[test]
+fn queue_keeps_order(rt: HostRuntime) {
+    let mut queue = ListQueue::<u32>::make(rt.alloc(), 3).expect(&rt, "no queue");
     for (step, (put, back)) in STEPS.iter().enumerate() {
         let came = match put {
             Some(number) => queue.put(*number).err(),
             None => queue.take(),
         };
-        expect_row(rt, step, &came, back);
+        expect(&rt, step, &came, back);
     }
 }
 
-fn queue_of(rt: &impl Abort, alloc: Global, places: u32) -> ListQueue<u32> {
-    ListQueue::make(alloc, places).expect(rt, "no queue")
-}
-
-#[test]
-fn queue_keeps_order(rt: HostRuntime) {
-    plays(&rt, &mut queue_of(&rt, rt.alloc(), 3));
-}
-
-#[test]
-fn queue_by_its_bounds(rt: HostRuntime) {
-    let came = passes(&mut queue_of(&rt, rt.alloc(), 1));
-    expect(&rt, &came, &(Ok(()), Err(8), Some(7)));
-}
-
-// Whether the part does not fit and comes back as it was.
-fn is_back(parts: &mut Parts, id: u64, block: u8) -> bool {
-    parts.push(part(id, block)) == Err(part(id, block))
-}
-
-fn id_at(parts: &Parts, at: u32) -> Option<u64> {
-    Some(parts.get(at)?.id)
+// The id and the block of each part that is pushed, and whether it comes back as it was.
+fn push_all(rt: &impl Abort, parts: &mut Parts, pushes: &[(u64, u8, bool)]) {
+    for (row, (id, block, back)) in pushes.iter().enumerate() {
+        let came = parts.push(part(*id, *block, *block)) == Err(part(*id, *block, *block));
+        expect(rt, row, &came, back);
+    }
 }
 
 // Sixteen parts go in, and the next comes back.
-fn fill(rt: &impl Abort, parts: &mut Parts) {
-    for block in 0..17 {
-        let back = is_back(parts, u64::from(block) + 100, block + 3);
-        expect_row(rt, usize::from(block), &back, &(block == 16));
-    }
-}
+static SEVENTEEN: [(u64, u8, bool); 17] = [
+    (100, 3, false),
+    (101, 4, false),
+    (102, 5, false),
+    (103, 6, false),
+    (104, 7, false),
+    (105, 8, false),
+    (106, 9, false),
+    (107, 10, false),
+    (108, 11, false),
+    (109, 12, false),
+    (110, 13, false),
+    (111, 14, false),
+    (112, 15, false),
+    (113, 16, false),
+    (114, 17, false),
+    (115, 18, false),
+    (116, 19, true),
+];
+
+static IDS: [(u32, Option<u64>); 4] = [
+    (0, Some(100)),
+    (15, Some(115)),
+    (16, None),
+    (u32::MAX, None),
+];
 
 #[test]
 fn holds_sixteen_parts(rt: HostRuntime) {
     let mut parts = Parts::none();
-    fill(&rt, &mut parts);
-    let ids = [
-        id_at(&parts, 0),
-        id_at(&parts, 15),
-        id_at(&parts, 16),
-        id_at(&parts, u32::MAX),
-    ];
-    let found = (parts.len(), parts.is_empty(), ids);
-    let wanted = (16, false, [Some(100), Some(115), None, None]);
-    expect(&rt, &found, &wanted);
+    push_all(&rt, &mut parts, &SEVENTEEN);
+    for (at, id) in &IDS {
+        let came = match parts.get(*at) {
+            Some(part) => Some(part.id),
+            None => None,
+        };
+        expect(&rt, *at as usize, &came, id);
+    }
+    expect(&rt, 0, &(parts.len(), parts.is_empty()), &(16, false));
 }
+
+// Parts of the same block, of one further on and of one before come back.
+static FOLLOWING: [(u64, u8, bool); 4] = [(2, 5, true), (2, 7, true), (2, 4, true), (2, 6, false)];
 
 #[test]
 fn parts_follow(rt: HostRuntime) {
-    let mut parts = Parts::one(part(1, 5));
-    let back = [
-        is_back(&mut parts, 2, 5),
-        is_back(&mut parts, 2, 7),
-        is_back(&mut parts, 2, 4),
-        is_back(&mut parts, 2, 6),
-    ];
-    let follows = parts.as_slice() == [part(1, 5), part(2, 6)].as_slice();
-    expect(&rt, &(back, follows), &([true, true, true, false], true));
-}
-
-// The command has this part alone.
-fn is_of(command: &Command, part: Part) -> bool {
-    command.parts.as_slice() == [part].as_slice()
+    let mut parts = Parts::one(part(1, 5, 5));
+    push_all(&rt, &mut parts, &FOLLOWING);
+    let follows = parts.as_slice() == [part(1, 5, 5), part(2, 6, 6)].as_slice();
+    expect(&rt, 0, &follows, &true);
 }
 
 #[test]
 fn commands_of_one_request(rt: HostRuntime) {
-    let command = Command::of_request(put(part(3, 9)), true);
-    let is_whole = is_of(&command, part(3, 9));
+    let command = Command::of_request(put(part(3, 9, 9)), true);
+    let is_whole = command.parts.as_slice() == [part(3, 9, 9)].as_slice();
     let flags = (command.priority, command.barrier, command.flush);
     drop(command);
     let wanted = (true, (Priority::Ordered, true, None));
-    expect(&rt, &(is_whole, flags), &wanted);
+    expect(&rt, 0, &(is_whole, flags), &wanted);
 }
 
 // A command of these parts, or a flush.
@@ -146,46 +145,51 @@ fn command(parts: Parts, flush: Option<u64>) -> Command
     }
 }
 
-// Two parts, of this block and the next.
-fn pair(rt: &impl Abort, id: u64, block: u8) -> Parts
-    requires { (id < 100) × (block < 100) }
+// Two parts, of blocks 5 and 6.
+fn pair(rt: &impl Abort) -> Parts
     ensures { length result ≡ 2 }
 {
-    let mut parts = Parts::one(part(id, block));
-    assert!(rt; parts.push(part(id + 1, block + 1)).is_ok());
+    let mut parts = Parts::one(part(0, 5, 5));
+    assert!(rt; parts.push(part(1, 6, 6)).is_ok());
     parts
 }
 
-// The id of the part at the place, the place of the first part of the command of that number, and whether the part is
-// this one.
-fn found(commands: &Commands, at: usize, part: Option<&Part>) -> (Option<u64>, usize, bool)
-    requires { at ≤ length commands.now.items }
-{
-    let is_same = commands.part(at).as_ref() == part;
-    (commands.part_id(at), commands.first_part(at), is_same)
+// At each place the part, by its id, its block and its last byte, and the place of the first part of the command of that
+// number.
+static PLACES: [(Option<(u64, u8, u8)>, usize); 4] = [
+    (Some((0, 5, 5)), 0),
+    (Some((1, 6, 6)), 2),
+    (Some((3, 9, 200)), 2),
+    (None, 3),
+];
+
+fn expect_places(rt: &impl Abort, commands: &Commands) {
+    for (at, (wanted, first)) in PLACES.iter().enumerate() {
+        assert!(rt; at <= commands.len());
+        let (id, part) = match wanted {
+            Some((id, block, last)) => (Some(*id), Some(part(*id, *block, *last))),
+            None => (None, None),
+        };
+        let came = (commands.part_id(at), commands.first_part(at));
+        expect(
+            rt,
+            at,
+            &(came, commands.part(at) == part),
+            &((id, *first), true),
+        );
+    }
 }
 
 // A put of blocks 5 and 6, a flush, and a put of block 9.
 #[test]
 fn commands_in_order(rt: HostRuntime) {
     let mut commands = Commands::make(rt.alloc(), 3).expect(&rt, "no commands");
-    commands.push(&command(pair(&rt, 0, 5), None));
+    commands.push(&command(pair(&rt), None));
     commands.push(&command(Parts::none(), Some(2)));
-    commands.push(&command(Parts::one(mixed(3, 9)), None));
+    commands.push(&command(Parts::one(part(3, 9, 200)), None));
     let counts = (commands.len(), commands.count_parts(), commands.is_empty());
-    let places = [
-        found(&commands, 0, Some(&part(0, 5))),
-        found(&commands, 1, Some(&part(1, 6))),
-        found(&commands, 2, Some(&mixed(3, 9))),
-        found(&commands, 3, None),
-    ];
-    let wanted = [
-        (Some(0), 0, true),
-        (Some(1), 2, true),
-        (Some(3), 2, true),
-        (None, 3, true),
-    ];
-    expect(&rt, &(counts, places), &((3, 3, false), wanted));
+    expect(&rt, 0, &counts, &(3, 3, false));
+    expect_places(&rt, &commands);
 }
 
 // A put of these bytes, ordered, without a barrier.
@@ -205,17 +209,18 @@ fn put(part: Part) -> Request {
 fn tallies_count(rt: HostRuntime) {
     let mut tally = Tally::make(2);
     let was_empty = tally.is_empty();
-    tally.push(&put(mixed(0, 5)));
-    tally.push(&put(part(1, 6)));
+    tally.push(&put(part(0, 5, 200)));
+    tally.push(&put(part(1, 6, 6)));
     let counts = (was_empty, tally.len(), tally.is_empty());
-    expect(&rt, &counts, &(true, 2, false));
+    expect(&rt, 0, &counts, &(true, 2, false));
 }
+
+static GROWN: [Completion; 2] = [Completion::Moved(4), Completion::Cut];
 
 #[test]
 fn history_grows(rt: HostRuntime) {
     let mut history = History::make(rt.alloc(), 2).expect(&rt, "no history");
     history.push(Completion::Moved(4));
     history.push(Completion::Cut);
-    let grown = [Completion::Moved(4), Completion::Cut];
-    expect(&rt, &history.as_slice(), &grown.as_slice());
+    expect(&rt, 0, &history.as_slice(), &GROWN.as_slice());
 }

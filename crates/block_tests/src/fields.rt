@@ -29,7 +29,7 @@ fn reads_and_writes_in_both_orders(rt: HostRuntime) {
         (0xFEDC_BA98, 0x98BA_DCFE),
         0x98BA_DCFE,
     );
-    expect(&rt, &came, &wanted);
+    expect(&rt, 0, &came, &wanted);
     numbers_are_read();
     fields_are_read();
     records_are_read();

@@ -2,12 +2,7 @@
 use std::fmt::Debug;
 use std::process::Abort;
 
-/// Ends the process where the two differ, and tells both.
-pub(crate) fn expect<T: PartialEq + Debug>(rt: &impl Abort, came: &T, wanted: &T) {
-    assert_eq!(rt; came, wanted);
-}
-
-/// The same of a row, whose place is told too.
-pub(crate) fn expect_row<T: PartialEq + Debug>(rt: &impl Abort, row: usize, came: &T, wanted: &T) {
+/// Ends the process where the two of a row differ, and tells its place and both.
+pub(crate) fn expect<T: PartialEq + Debug>(rt: &impl Abort, row: usize, came: &T, wanted: &T) {
     assert_eq!(rt; came, wanted, "row {row}");
 }
