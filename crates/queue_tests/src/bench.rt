@@ -2,7 +2,8 @@
 ghost use Rattle.std.specs.Prelude.{◌≡◌, [], true};
 ghost use Rattle.queue_tests.specs.Numbered.{IsNumbered, IsAsked};
 
-use crate::same::{expect, expect_step};
+use crate::steps::Answer::{self, Count, Is, Refused, Sent};
+use crate::steps::{Player, expect, plays};
 use blk_base::Block;
 use order_model::{Command, Kind, Priority, Request};
 use schedulers::reassign::{Held, Scheduler, lawful_eligible};
@@ -11,7 +12,7 @@ use std::process::Abort;
 pub const LIMIT: u64 = 200;
 
 /// Requests that a host may submit: puts to a block, and a flush.
-#[derive(Clone, Copy, PartialEq, Eq, Debug)]
+#[derive(Clone, Copy)]
 pub enum Ask {
     Orderless(u32),
     Ordered(u32),
@@ -50,27 +51,38 @@ pub fn request(id: u64, ask: Ask) -> Request
     }
 }
 
-/// What a test does with a scheduler, each with the answer that it expects.
-#[derive(Clone, Copy, PartialEq, Eq, Debug)]
+/// What a test does with a scheduler.
+#[derive(Clone, Copy)]
 pub enum Step {
-    /// A request is submitted, and refused for this reason if any.
-    Submit(Ask, Option<Held>),
-    /// So many orderless puts are submitted, to blocks 0, 1 and so on.
-    Fill(u32, Option<Held>),
+    /// A request is submitted.
+    Submit(Ask),
+    /// So many orderless puts are submitted, to blocks 0, 1 and so on. The first that is refused ends it.
+    Fill(u32),
     /// The command at this place of the list is sent.
-    Send(u32, Option<Sent>),
-    /// The same, into a command that is kept from step to step; and whether one was sent, and which is kept then.
-    SendInto(u32, bool, Option<Sent>),
+    Send(u32),
+    /// The same, into a command that is kept from step to step; and whether one was sent.
+    SendInto(u32),
+    /// The command that is kept.
+    Kept,
     /// How many commands may be sent.
-    Eligible(u32),
-    CanAccept(bool),
+    Eligible,
+    CanAccept,
+}
+
+/// The steps of a new scheduler; and how many requests it then accepted and how many commands it sent.
+pub struct Row {
+    pub name: &'static str,
+    pub steps: &'static [(Step, Answer)],
+    pub accepted: usize,
+    pub sent: usize,
 }
 
 /// A scheduler whose requests are numbered from 0 on.
 #[derive(Drop)]
 pub struct Bench<S: Scheduler> {
-    pub sched: S,
-    pub count: u64,
+    sched: S,
+    kept: Command,
+    count: u64,
     ghost numbered: { IsNumbered (S.steps.seen (S.state sched)) count },
 }
 
@@ -79,33 +91,10 @@ impl<S: Scheduler> Bench<S> {
         requires limit { (S.steps.seen (S.state sched)).limit ≡ 200 }
         requires new { (S.steps.seen (S.state sched)).accepted ≡ [] }
     {
-        Bench { sched, count: 0 }
-    }
-
-    /// Does the steps, and ends the process at the first with another answer than it names.
-    pub fn plays(&mut self, rt: &impl Abort, steps: &[Step]) {
-        self.plays_on(rt, steps, &mut Command::blank());
-    }
-
-    // The same, beside the command that is kept.
-    fn plays_on(&mut self, rt: &impl Abort, steps: &[Step], kept: &mut Command) {
-        for (at, step) in steps.iter().enumerate() {
-            expect_step(rt, at, &self.done(*step, kept), step);
-        }
-    }
-
-    // The step with the answer that came.
-    fn done(&mut self, step: Step, kept: &mut Command) -> Step {
-        match step {
-            Step::Submit(ask, _) => Step::Submit(ask, self.submit(ask)),
-            Step::Fill(blocks, _) => Step::Fill(blocks, self.fill(blocks)),
-            Step::Send(pick, _) => Step::Send(pick, self.send(pick)),
-            Step::SendInto(pick, ..) => {
-                let sent = self.send_into(pick, kept);
-                Step::SendInto(pick, sent, Some(sent_of(kept)))
-            }
-            Step::Eligible(_) => Step::Eligible(lawful_eligible(&self.sched)),
-            Step::CanAccept(_) => Step::CanAccept(self.sched.can_accept()),
+        Bench {
+            sched,
+            kept: Command::blank(),
+            count: 0,
         }
     }
 
@@ -133,39 +122,51 @@ impl<S: Scheduler> Bench<S> {
         None
     }
 
-    fn send(&mut self, pick: u32) -> Option<Sent> {
+    fn send(&mut self, pick: u32) -> Answer {
         let _ = self.sched.can_accept();
-        let command = self.sched.dispatch(pick)?;
-        Some(sent_of(&command))
+        match self.sched.dispatch(pick) {
+            Some(command) => sent_of(&command),
+            None => Sent(None),
+        }
     }
 
-    // Whether a command was sent, which is written into this one.
-    fn send_into(&mut self, pick: u32, into: &mut Command) -> bool {
+    fn send_into(&mut self, pick: u32) -> bool {
         let _ = self.sched.can_accept();
-        self.sched.dispatch_into(pick, into)
+        self.sched.dispatch_into(pick, &mut self.kept)
     }
 }
 
-/// So many requests were accepted and so many commands sent, as the scheduler's trace and then its record tell.
-pub fn expect_passed<S: Scheduler>(rt: &impl Abort, bench: Bench<S>, accepted: usize, sent: usize) {
-    let Bench { sched, count } = bench;
+impl<S: Scheduler> Player<Step> for Bench<S> {
+    fn done(&mut self, step: Step) -> Answer {
+        match step {
+            Step::Submit(ask) => Refused(self.submit(ask)),
+            Step::Fill(blocks) => Refused(self.fill(blocks)),
+            Step::Send(pick) => self.send(pick),
+            Step::SendInto(pick) => Is(self.send_into(pick)),
+            Step::Kept => sent_of(&self.kept),
+            Step::Eligible => Count(lawful_eligible(&self.sched)),
+            Step::CanAccept => Is(self.sched.can_accept()),
+        }
+    }
+}
+
+/// Does the row's steps. Then so much was accepted and sent, as the scheduler's trace and then its record tell.
+pub fn plays_row<S: Scheduler>(rt: &impl Abort, mut bench: Bench<S>, row: &Row) {
+    plays(rt, &mut bench, row.name, row.steps);
+    let Bench { sched, kept, count } = bench;
+    drop(kept);
     let traced = sched.trace().sent_out.len();
     let record = sched.into_trace();
     let passed = (record.accepted.len(), record.sent_out.len());
     drop(record);
-    let wanted = (accepted as u64, sent, (accepted, sent));
-    expect(rt, &(count, traced, passed), &wanted);
-}
-
-/// A command that was sent: the ids of its first and its last part, or that of the flush twice, and how many parts it has.
-#[derive(Clone, Copy, PartialEq, Eq, Debug)]
-pub enum Sent {
-    /// It has parts, is no barrier and is free in its order.
-    Plain(u64, u64, u32),
-    /// It is a barrier, and ordered. A flush has no parts.
-    Fence(u64, u64, u32),
-    /// Any other: whether it is a flush, whether it is a barrier, and how it is ordered.
-    Odd(u64, u64, u32, bool, bool, Priority),
+    let wanted = (row.accepted as u64, row.sent, (row.accepted, row.sent));
+    expect(
+        rt,
+        row.name,
+        row.steps.len(),
+        &(count, traced, passed),
+        &wanted,
+    );
 }
 
 fn id_at(c: &Command, at: usize) -> u64 {
@@ -175,14 +176,15 @@ fn id_at(c: &Command, at: usize) -> u64 {
     }
 }
 
-fn sent_of(c: &Command) -> Sent {
+fn sent_of(c: &Command) -> Answer {
     let parts = c.parts.len();
     let first = id_at(c, 0);
     let last = id_at(c, (parts as usize).saturating_sub(1));
     let is_flush = c.flush.is_some();
-    match (c.barrier, c.priority) {
-        (false, Priority::Simple) if !is_flush => Sent::Plain(first, last, parts),
-        (true, Priority::Ordered) if is_flush == (parts == 0) => Sent::Fence(first, last, parts),
-        _ => Sent::Odd(first, last, parts, is_flush, c.barrier, c.priority),
-    }
+    let form = match (c.barrier, c.priority) {
+        (false, Priority::Simple) if !is_flush => "plain",
+        (true, Priority::Ordered) if is_flush == (parts == 0) => "fence",
+        _ => "odd",
+    };
+    Sent(Some((first, last, parts, form)))
 }

@@ -3,26 +3,31 @@ ghost use Rattle.std.specs.Prelude.{◌≡◌, ◌+◌, ◌<◌, ◌≤◌, true
 
 use crate::bench::Ask::{self, Barrier, Flush, Ordered, Orderless};
 use crate::bench::request;
-use crate::same::{expect, expect_step};
+use crate::steps::Answer::{self, Count, Is, Left, Number, Refused};
+use crate::steps::{Player, expect, plays};
 use order_model::{Kind, Request, Tally};
 use schedulers::reassign::{EpochQueue, Held};
-use std::alloc::Global;
-use std::process::Abort;
 
-// What a test does with a queue, each with the answer that it expects.
-#[derive(Clone, Copy, PartialEq, Eq, Debug)]
+// What a test does with a queue.
+#[derive(Clone, Copy)]
 enum Step {
-    // The request under this id is refused for this reason, if any.
-    Accept(u64, Ask, Option<Held>),
-    // The id of the request that leaves, the flag that it waited with, and whether it leaves as the barrier.
-    Leave(u32, Option<(u64, bool, bool)>),
+    // A request comes under this id.
+    Accept(u64, Ask),
+    Leave(u32),
     // The id of the request at this place.
-    Peek(u32, Option<u64>),
-    Eligible(u32),
-    CanAccept(bool),
+    Peek(u32),
+    Eligible,
+    CanAccept,
 }
 
 use Step::{Accept, CanAccept, Eligible, Leave, Peek};
+
+// The steps of a new queue of so many places.
+struct Row {
+    name: &'static str,
+    places: u32,
+    steps: &'static [(Step, Answer)],
+}
 
 // A queue that has numbered no more requests than it was asked to accept.
 #[derive(Drop)]
@@ -32,24 +37,19 @@ struct Bench {
     ghost few: { queue.next ≤ count },
 }
 
-impl Bench {
-    // Ends the process at the first step with another answer than it names.
-    fn plays(&mut self, rt: &impl Abort, steps: &[Step]) {
-        for (at, step) in steps.iter().enumerate() {
-            expect_step(rt, at, &self.done(*step), step);
-        }
-    }
-
-    fn done(&mut self, step: Step) -> Step {
+impl Player<Step> for Bench {
+    fn done(&mut self, step: Step) -> Answer {
         match step {
-            Accept(id, ask, _) => Accept(id, ask, self.accept(id, ask)),
-            Leave(pick, _) => Leave(pick, leave(&mut self.queue, pick)),
-            Peek(pick, _) => Peek(pick, peeked(&self.queue, pick)),
-            Eligible(_) => Eligible(self.queue.eligible()),
-            CanAccept(_) => CanAccept(self.queue.can_accept()),
+            Accept(id, ask) => Refused(self.accept(id, ask)),
+            Leave(pick) => Left(leave(&mut self.queue, pick)),
+            Peek(pick) => Number(peeked(&self.queue, pick)),
+            Eligible => Count(self.queue.eligible()),
+            CanAccept => Is(self.queue.can_accept()),
         }
     }
+}
 
+impl Bench {
     fn accept(&mut self, id: u64, ask: Ask) -> Option<Held> {
         if self.count >= 1000 {
             return Some(Held::Full);
@@ -82,99 +82,96 @@ fn peeked(q: &EpochQueue, pick: u32) -> Option<u64> {
     Some(q.peek(pick)?.id)
 }
 
-// A new queue of so many places does the steps.
-fn plays(rt: &impl Abort, alloc: Global, places: u32, steps: &[Step]) {
-    let queue = EpochQueue::make(alloc, places).expect(rt, "no queue");
-    Bench { queue, count: 0 }.plays(rt, steps);
-}
-
-const ONLY_ORDERED_ONE_CARRIES_THE_FLAG: [Step; 15] = [
-    Accept(0, Orderless(0), None),
-    Accept(1, Orderless(1), None),
-    Accept(2, Barrier(2), None),
-    CanAccept(false),
-    Accept(3, Orderless(3), Some(Held::Blocked)),
-    Peek(2, Some(2)),
-    Leave(2, Some((2, false, true))),
-    CanAccept(true),
-    Accept(3, Orderless(3), None),
-    Eligible(3),
-    Peek(0, Some(0)),
-    Peek(1, Some(1)),
-    Peek(2, Some(3)),
-    Peek(3, None),
-    Leave(3, None),
+static ROWS: [Row; 5] = [
+    Row {
+        name: "only ordered one carries the flag",
+        places: 8,
+        steps: &[
+            (Accept(0, Orderless(0)), Refused(None)),
+            (Accept(1, Orderless(1)), Refused(None)),
+            (Accept(2, Barrier(2)), Refused(None)),
+            (CanAccept, Is(false)),
+            (Accept(3, Orderless(3)), Refused(Some(Held::Blocked))),
+            (Peek(2), Number(Some(2))),
+            (Leave(2), Left(Some((2, false, true)))),
+            (CanAccept, Is(true)),
+            (Accept(3, Orderless(3)), Refused(None)),
+            (Eligible, Count(3)),
+            (Peek(0), Number(Some(0))),
+            (Peek(1), Number(Some(1))),
+            (Peek(2), Number(Some(3))),
+            (Peek(3), Number(None)),
+            (Leave(3), Left(None)),
+        ],
+    },
+    // A later request leaves first, and an earlier one is then the last order-preserving one.
+    Row {
+        name: "flag moves",
+        places: 8,
+        steps: &[
+            (Accept(0, Ordered(0)), Refused(None)),
+            (Accept(1, Barrier(1)), Refused(None)),
+            (Leave(1), Left(Some((1, false, false)))),
+            (CanAccept, Is(false)),
+            (Leave(0), Left(Some((0, false, true)))),
+            (CanAccept, Is(true)),
+        ],
+    },
+    // 0 and 2 are puts of block 7. The last of them is the barrier, but 1 leaves last.
+    Row {
+        name: "keeps puts of one block in order",
+        places: 8,
+        steps: &[
+            (Accept(0, Orderless(7)), Refused(None)),
+            (Accept(1, Ordered(8)), Refused(None)),
+            (Accept(2, Barrier(7)), Refused(None)),
+            (Eligible, Count(2)),
+            (Peek(1), Number(Some(1))),
+            (Leave(0), Left(Some((0, false, false)))),
+            (Eligible, Count(2)),
+            (Leave(1), Left(Some((2, false, false)))),
+            (Leave(0), Left(Some((1, false, true)))),
+            (Eligible, Count(0)),
+        ],
+    },
+    Row {
+        name: "flush leaves alone",
+        places: 8,
+        steps: &[
+            (Accept(0, Ordered(0)), Refused(None)),
+            (Accept(1, Flush), Refused(None)),
+            (Accept(2, Orderless(2)), Refused(Some(Held::Blocked))),
+            (Eligible, Count(1)),
+            (Leave(1), Left(None)),
+            (Leave(0), Left(Some((0, false, false)))),
+            (Accept(2, Flush), Refused(Some(Held::Blocked))),
+            (Leave(0), Left(Some((1, true, true)))),
+            (Accept(2, Orderless(2)), Refused(None)),
+        ],
+    },
+    Row {
+        name: "holds capacity",
+        places: 2,
+        steps: &[
+            (Accept(0, Orderless(0)), Refused(None)),
+            (Accept(1, Orderless(1)), Refused(None)),
+            (CanAccept, Is(false)),
+            (Accept(2, Barrier(9)), Refused(Some(Held::Full))),
+            (Leave(0), Left(Some((0, false, false)))),
+            (Accept(2, Barrier(9)), Refused(None)),
+            (Accept(3, Orderless(3)), Refused(Some(Held::Blocked))),
+        ],
+    },
 ];
 
 #[test]
-fn only_ordered_one_carries_the_flag(rt: HostRuntime) {
-    plays(&rt, rt.alloc(), 8, &ONLY_ORDERED_ONE_CARRIES_THE_FLAG);
-}
-
-// A later request leaves first, and an earlier one is then the last order-preserving one.
-const FLAG_MOVES: [Step; 6] = [
-    Accept(0, Ordered(0), None),
-    Accept(1, Barrier(1), None),
-    Leave(1, Some((1, false, false))),
-    CanAccept(false),
-    Leave(0, Some((0, false, true))),
-    CanAccept(true),
-];
-
-#[test]
-fn flag_moves(rt: HostRuntime) {
-    plays(&rt, rt.alloc(), 8, &FLAG_MOVES);
-}
-
-// 0 and 2 are puts of block 7. The last of them is the barrier, but 1 leaves last.
-const KEEPS_PUTS_OF_ONE_BLOCK_IN_ORDER: [Step; 10] = [
-    Accept(0, Orderless(7), None),
-    Accept(1, Ordered(8), None),
-    Accept(2, Barrier(7), None),
-    Eligible(2),
-    Peek(1, Some(1)),
-    Leave(0, Some((0, false, false))),
-    Eligible(2),
-    Leave(1, Some((2, false, false))),
-    Leave(0, Some((1, false, true))),
-    Eligible(0),
-];
-
-#[test]
-fn keeps_puts_of_one_block_in_order(rt: HostRuntime) {
-    plays(&rt, rt.alloc(), 8, &KEEPS_PUTS_OF_ONE_BLOCK_IN_ORDER);
-}
-
-const FLUSH_LEAVES_ALONE: [Step; 9] = [
-    Accept(0, Ordered(0), None),
-    Accept(1, Flush, None),
-    Accept(2, Orderless(2), Some(Held::Blocked)),
-    Eligible(1),
-    Leave(1, None),
-    Leave(0, Some((0, false, false))),
-    Accept(2, Flush, Some(Held::Blocked)),
-    Leave(0, Some((1, true, true))),
-    Accept(2, Orderless(2), None),
-];
-
-#[test]
-fn flush_leaves_alone(rt: HostRuntime) {
-    plays(&rt, rt.alloc(), 8, &FLUSH_LEAVES_ALONE);
-}
-
-const HOLDS_CAPACITY: [Step; 7] = [
-    Accept(0, Orderless(0), None),
-    Accept(1, Orderless(1), None),
-    CanAccept(false),
-    Accept(2, Barrier(9), Some(Held::Full)),
-    Leave(0, Some((0, false, false))),
-    Accept(2, Barrier(9), None),
-    Accept(3, Orderless(3), Some(Held::Blocked)),
-];
-
-#[test]
-fn holds_capacity(rt: HostRuntime) {
-    plays(&rt, rt.alloc(), 2, &HOLDS_CAPACITY);
+fn lets_go_what_its_rows_tell(rt: HostRuntime) {
+    for row in &ROWS {
+        let queue = EpochQueue::make(rt.alloc(), row.places).expect(&rt, "no queue");
+        let mut bench = Bench { queue, count: 0 };
+        plays(&rt, &mut bench, row.name, row.steps);
+        drop(bench);
+    }
 }
 
 // The record has nothing of a request that came back.
@@ -189,6 +186,9 @@ fn records_what_it_accepts(rt: HostRuntime) {
         .accept_recorded(&mut history, request(8, Orderless(4)))
         .is_err();
     let left = leave(&mut q, 0);
+    drop(q);
     let came = (accepted, blocked, history.len(), left);
-    expect(&rt, &came, &(true, true, 1, Some((7, false, true))));
+    drop(history);
+    let wanted = (true, true, 1, Some((7, false, true)));
+    expect(&rt, "records what it accepts", 0, &came, &wanted);
 }

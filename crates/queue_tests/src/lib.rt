@@ -13,8 +13,8 @@ mod epoch_queue;
 #[cfg(test)]
 mod plain_scheduler;
 #[cfg(test)]
-mod same;
-#[cfg(test)]
 mod shared_queues;
+#[cfg(test)]
+mod steps;
 #[cfg(test)]
 mod waiting_commands;

@@ -1,7 +1,7 @@
 //! The queues that threads share: what each end takes, hands back and gives, and two threads at the two ends of one.
 ghost use Rattle.schedulers.specs.dispatch.Opened.{ArePassesOf, AreNew, AreNamed};
 
-use crate::same::expect_step;
+use crate::steps::expect;
 use order_model::{Command, Completion, Inlet, Kind, Outlet, Request};
 use schedulers::dispatch::{Ends, Passes, QueueNames, Queues, close, ends, make_queues};
 use std::marker::Brand;
@@ -10,42 +10,44 @@ use std::sync::Wait;
 use std::thread;
 use std::thread::Threads;
 
-// What a test does with the two ends of a queue, each with the answer that it expects.
-#[derive(Clone, Copy, PartialEq, Eq, Debug)]
+// What a test does with the two ends of a queue.
+#[derive(Clone, Copy)]
 enum Step {
     // The item of this number is put; and the number of the item that comes back, if one does.
-    Put(u64, Option<u64>),
+    Put(u64),
     // The number of the item that is taken.
-    Take(Option<u64>),
+    Take,
 }
 
 use Step::{Put, Take};
 
-// Two items are held at most. The fifth and sixth lie where the first and second lay.
-const OF_TWO: [Step; 13] = [
-    Take(None),
-    Put(1, None),
-    Put(2, None),
-    Put(3, Some(3)),
-    Take(Some(1)),
-    Put(4, None),
-    Put(5, Some(5)),
-    Take(Some(2)),
-    Take(Some(4)),
-    Take(None),
-    Put(6, None),
-    Take(Some(6)),
-    Take(None),
+// Two items are held at most. The fifth and sixth lie where the first and second lay, and the last one stays.
+static OF_TWO: [(Step, Option<u64>); 14] = [
+    (Take, None),
+    (Put(1), None),
+    (Put(2), None),
+    (Put(3), Some(3)),
+    (Take, Some(1)),
+    (Put(4), None),
+    (Put(5), Some(5)),
+    (Take, Some(2)),
+    (Take, Some(4)),
+    (Take, None),
+    (Put(6), None),
+    (Take, Some(6)),
+    (Take, None),
+    (Put(7), None),
 ];
 
-const OF_ONE: [Step; 7] = [
-    Put(1, None),
-    Put(2, Some(2)),
-    Take(Some(1)),
-    Take(None),
-    Put(3, None),
-    Take(Some(3)),
-    Take(None),
+static OF_ONE: [(Step, Option<u64>); 8] = [
+    (Put(1), None),
+    (Put(2), Some(2)),
+    (Take, Some(1)),
+    (Take, None),
+    (Put(3), None),
+    (Take, Some(3)),
+    (Take, None),
+    (Put(7), None),
 ];
 
 // What goes through a queue, as a test tells it apart from the next.
@@ -99,37 +101,38 @@ fn done<T: Numbered + Drop, O: Outlet<T>, I: Inlet<T>>(
     out: &mut O,
     from: &mut I,
     step: Step,
-) -> Step {
+) -> Option<u64> {
     match step {
-        Put(number, _) => match out.put(T::numbered(number)) {
-            Ok(()) => Put(number, None),
-            Err(item) => Put(number, Some(item.number())),
+        Put(number) => match out.put(T::numbered(number)) {
+            Ok(()) => None,
+            Err(item) => Some(item.number()),
         },
-        Take(_) => match from.take() {
-            Some(item) => Take(Some(item.number())),
-            None => Take(None),
+        Take => match from.take() {
+            Some(item) => Some(item.number()),
+            None => None,
         },
     }
 }
 
-// The first step with another answer than it names ends the process.
+// The first step with another answer than the one beside it ends the process.
 fn plays<T: Numbered + Drop, O: Outlet<T>, I: Inlet<T>>(
     rt: &impl Abort,
+    queue: &str,
     out: &mut O,
     from: &mut I,
-    steps: &[Step],
+    steps: &[(Step, Option<u64>)],
 ) {
     for (at, step) in steps.iter().enumerate() {
-        expect_step(rt, at, &done(out, from, *step), step);
+        expect(rt, queue, at, &done(out, from, step.0), &step.1);
     }
 }
 
-// Each of three new queues does the steps. The last item that is put into each stays there.
+// Each of three new queues does the steps.
 fn plays_all<'a, N: QueueNames, H: Wait + Sync + Abort>(
     rt: &'a H,
     queues: &'a Queues,
     passes: Passes,
-    steps: &[Step],
+    steps: &[(Step, Option<u64>)],
 )
     requires passes { ArePassesOf queues.now passes }
     requires new { AreNew passes }
@@ -143,13 +146,9 @@ fn plays_all<'a, N: QueueNames, H: Wait + Sync + Abort>(
         mut post,
         mut completion,
     } = ends::<N, H>(rt, queues, passes);
-    plays(rt, &mut submit, &mut request, steps);
-    plays(rt, &mut send, &mut command, steps);
-    plays(rt, &mut post, &mut completion, steps);
-    let last = [Put(7, None)];
-    plays(rt, &mut submit, &mut request, &last);
-    plays(rt, &mut send, &mut command, &last);
-    plays(rt, &mut post, &mut completion, &last);
+    plays(rt, "submission", &mut submit, &mut request, steps);
+    plays(rt, "dispatch", &mut send, &mut command, steps);
+    plays(rt, "completion", &mut post, &mut completion, steps);
     close(Ends {
         submit,
         request,
@@ -164,12 +163,14 @@ fn plays_all<'a, N: QueueNames, H: Wait + Sync + Abort>(
 fn hold_two_items(rt: HostRuntime) {
     let (queues, passes) = make_queues(&rt, rt.alloc(), 2).expect(&rt, "no queues");
     plays_all::<Brand, HostRuntime>(&rt, &queues, passes, &OF_TWO);
+    drop(queues);
 }
 
 #[test]
 fn hold_one_item(rt: HostRuntime) {
     let (queues, passes) = make_queues(&rt, rt.alloc(), 1).expect(&rt, "no queues");
     plays_all::<Brand, HostRuntime>(&rt, &queues, passes, &OF_ONE);
+    drop(queues);
 }
 
 // Puts the completions of the ids below `count`, in order.
@@ -196,7 +197,8 @@ fn takes_all<H: Wait, I: Inlet<Completion>>(rt: &H, from: &mut I, count: u64) ->
         }
         match from.take() {
             Some(completion) => {
-                is_in_order = is_in_order && completion == Completion::Moved(next);
+                let is_next = completion == Completion::Moved(next);
+                is_in_order = is_in_order & is_next;
                 next += 1;
             }
             None => thread::yield_now(),
@@ -229,7 +231,6 @@ fn crosses<'a, N: QueueNames + Send + Sync, H: Threads + Wait + Sync + Abort>(
         move || sends_all(rt, out, 1000),
         move || takes_all(rt, from, 1000),
     );
-    assert!(rt; is_in_order);
     close(Ends {
         submit,
         request,
@@ -238,6 +239,7 @@ fn crosses<'a, N: QueueNames + Send + Sync, H: Threads + Wait + Sync + Abort>(
         post,
         completion,
     });
+    assert!(rt; is_in_order);
 }
 
 // A thread puts a thousand items into a queue of three while another takes them.
@@ -245,4 +247,5 @@ fn crosses<'a, N: QueueNames + Send + Sync, H: Threads + Wait + Sync + Abort>(
 fn keep_the_order_between_threads(rt: HostRuntime) {
     let (queues, passes) = make_queues(&rt, rt.alloc(), 3).expect(&rt, "no queues");
     crosses::<Brand, HostRuntime>(&rt, &queues, passes);
+    drop(queues);
 }

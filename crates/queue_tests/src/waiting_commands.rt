@@ -1,31 +1,39 @@
 //! Commands that wait: which may go next in a device, and the ring of those that are on their way to it.
 ghost use Rattle.std.specs.Prelude.{◌≤◌};
 
-use crate::same::{expect, expect_step};
+use crate::steps::Answer::{self, Count, Is, Number, Parts};
+use crate::steps::{Player, plays};
 use blk_base::Block;
 use device_epochs::queue::{CommandQueue, CommandRing};
 use order_model::Priority::{Ordered, Simple};
-use order_model::{Command, Part, Parts, Priority};
-use std::alloc::Global;
-use std::process::Abort;
+use order_model::{Command, Part, Priority};
 
-// What a test does with a queue, each with the answer that it expects.
-#[derive(Clone, Copy, PartialEq, Eq, Debug)]
+// What a test does with a queue.
+#[derive(Clone, Copy)]
 enum Step {
     // Whether the queue takes a command of so many blocks from this one on.
-    Receive(Priority, u8, u8, bool),
-    // The first block of the command at this place, which leaves.
-    Take(u32, Option<u32>),
-    // The first block of the command at this place, which then leaves by `leave`.
-    Leave(u32, Option<u32>),
-    // The number of the command at this place, and its first block.
-    Peek(u32, Option<u64>, Option<u32>),
-    Eligible(u32),
-    Room(bool),
-    IsEmpty(bool),
+    Receive(Priority, u8, u8),
+    // The parts of the command at this place, which leaves.
+    Take(u32),
+    // The parts of the command at this place, which then leaves by `leave`.
+    Leave(u32),
+    // The number of the command at this place.
+    NumberAt(u32),
+    // The parts of the command at this place.
+    Peek(u32),
+    Eligible,
+    Room,
+    IsEmpty,
 }
 
-use Step::{Eligible, IsEmpty, Leave, Peek, Receive, Room, Take};
+use Step::{Eligible, IsEmpty, Leave, NumberAt, Peek, Receive, Room, Take};
+
+// The steps of a new queue of this depth, from 1 to 64.
+struct Row {
+    name: &'static str,
+    depth: u32,
+    steps: &'static [(Step, Answer)],
+}
 
 // A queue that has numbered no more commands than were sent to it.
 #[derive(Drop)]
@@ -35,36 +43,26 @@ struct Bench {
     ghost few: { queue.next ≤ count },
 }
 
-impl Bench {
-    // Ends the process at the first step with another answer than it names.
-    fn plays(&mut self, rt: &impl Abort, steps: &[Step]) {
-        for (at, step) in steps.iter().enumerate() {
-            expect_step(rt, at, &self.done(*step), step);
-        }
-    }
-
-    fn done(&mut self, step: Step) -> Step {
+impl Player<Step> for Bench {
+    fn done(&mut self, step: Step) -> Answer {
         match step {
-            Receive(priority, first, blocks, _) => {
-                let taken = self.receive(command(priority, first, blocks));
-                Receive(priority, first, blocks, taken)
-            }
-            Take(pick, _) => Take(pick, first_block(self.queue.take(pick).as_ref())),
-            Leave(pick, _) => {
-                let block = first_block(self.queue.peek(pick));
+            Receive(priority, first, blocks) => Is(self.receive(command(priority, first, blocks))),
+            Take(pick) => Parts(parts_of(self.queue.take(pick).as_ref())),
+            Leave(pick) => {
+                let parts = parts_of(self.queue.peek(pick));
                 self.queue.leave(pick);
-                Leave(pick, block)
+                Parts(parts)
             }
-            Peek(pick, ..) => {
-                let block = first_block(self.queue.peek(pick));
-                Peek(pick, self.queue.number(pick), block)
-            }
-            Eligible(_) => Eligible(self.queue.eligible()),
-            Room(_) => Room(self.queue.room()),
-            IsEmpty(_) => IsEmpty(self.queue.is_empty()),
+            NumberAt(pick) => Number(self.queue.number(pick)),
+            Peek(pick) => Parts(parts_of(self.queue.peek(pick))),
+            Eligible => Count(self.queue.eligible()),
+            Room => Is(self.queue.room()),
+            IsEmpty => Is(self.queue.is_empty()),
         }
     }
+}
 
+impl Bench {
     fn receive(&mut self, c: Command) -> bool {
         if self.count >= 1000 {
             return false;
@@ -77,170 +75,171 @@ impl Bench {
 
 // A command of so many blocks from `first` on, at most 16.
 fn command(priority: Priority, first: u8, blocks: u8) -> Command {
-    let mut parts = Parts::none();
+    let mut command = Command::blank();
+    command.priority = priority;
     for at in 0..u32::from(blocks) {
         let block = u32::from(first) + at;
-        let _ = parts.push(Part {
+        let _ = command.parts.push(Part {
             id: u64::from(block),
             block,
             body: Block::fill(0),
         });
     }
-    Command {
-        parts,
-        priority,
-        barrier: false,
-        flush: None,
+    command
+}
+
+// The first block of a command, and how many it has.
+fn parts_of(c: Option<&Command>) -> Option<(u32, u32)> {
+    let parts = &c?.parts;
+    Some((parts.get(0)?.block, parts.len()))
+}
+
+static ROWS: [Row; 3] = [
+    Row {
+        name: "holds depth",
+        depth: 2,
+        steps: &[
+            (Receive(Simple, 1, 1), Is(true)),
+            (Room, Is(true)),
+            (Receive(Simple, 2, 1), Is(true)),
+            (Room, Is(false)),
+            (Receive(Ordered, 3, 2), Is(false)),
+            (Eligible, Count(2)),
+            (Take(1), Parts(Some((2, 1)))),
+            (Room, Is(true)),
+            (IsEmpty, Is(false)),
+            (Leave(0), Parts(Some((1, 1)))),
+            (IsEmpty, Is(true)),
+        ],
+    },
+    // 0: SIMPLE at block 1; 1: SIMPLE at block 1; 2: SIMPLE at block 2; 3: ORDERED; 4: SIMPLE.
+    Row {
+        name: "keeps ordered ones in order",
+        depth: 8,
+        steps: &[
+            (Receive(Simple, 1, 1), Is(true)),
+            (Receive(Simple, 1, 1), Is(true)),
+            (Receive(Simple, 2, 1), Is(true)),
+            (Receive(Ordered, 9, 1), Is(true)),
+            (Receive(Simple, 3, 1), Is(true)),
+            (Eligible, Count(2)),
+            (NumberAt(0), Number(Some(0))),
+            (Peek(0), Parts(Some((1, 1)))),
+            (NumberAt(2), Number(None)),
+            (Peek(2), Parts(None)),
+            (NumberAt(1), Number(Some(2))),
+            (Peek(1), Parts(Some((2, 1)))),
+            (Take(1), Parts(Some((2, 1)))),
+            (Eligible, Count(1)),
+            (NumberAt(0), Number(Some(0))),
+            (Peek(0), Parts(Some((1, 1)))),
+            (Take(0), Parts(Some((1, 1)))),
+            (Eligible, Count(1)),
+            (NumberAt(0), Number(Some(1))),
+            (Peek(0), Parts(Some((1, 1)))),
+            (Take(0), Parts(Some((1, 1)))),
+            (Eligible, Count(1)),
+            (NumberAt(0), Number(Some(3))),
+            (Peek(0), Parts(Some((9, 1)))),
+            (Take(0), Parts(Some((9, 1)))),
+            (Eligible, Count(1)),
+            (NumberAt(0), Number(Some(4))),
+            (Peek(0), Parts(Some((3, 1)))),
+            (Take(0), Parts(Some((3, 1)))),
+            (Eligible, Count(0)),
+            (Take(0), Parts(None)),
+        ],
+    },
+    // Blocks 5 to 7, 7 and 8, and 8 and 9: the third has no block of the first, but waits for the second.
+    Row {
+        name: "keeps blocks in order",
+        depth: 3,
+        steps: &[
+            (Receive(Simple, 5, 3), Is(true)),
+            (Receive(Simple, 7, 2), Is(true)),
+            (Receive(Simple, 8, 2), Is(true)),
+            (Eligible, Count(1)),
+            (Take(0), Parts(Some((5, 3)))),
+            (Eligible, Count(1)),
+            (Take(0), Parts(Some((7, 2)))),
+            (Eligible, Count(1)),
+            (Take(0), Parts(Some((8, 2)))),
+        ],
+    },
+];
+
+#[test]
+fn lets_go_what_its_rows_tell(rt: HostRuntime) {
+    for row in &ROWS {
+        assert!(rt; 1 <= row.depth && row.depth <= 64);
+        let queue = CommandQueue::make(rt.alloc(), row.depth).expect(&rt, "no queue");
+        let mut bench = Bench { queue, count: 0 };
+        plays(&rt, &mut bench, row.name, row.steps);
+        drop(bench);
     }
 }
 
-// The first block of a command.
-fn first_block(c: Option<&Command>) -> Option<u32> {
-    Some(c?.parts.get(0)?.block)
-}
-
-// A new queue of this depth does the steps.
-fn plays(rt: &impl Abort, alloc: Global, depth: u32, steps: &[Step])
-    requires { (1 ≤ depth) × (depth ≤ 64) }
-{
-    let queue = CommandQueue::make(alloc, depth).expect(rt, "no queue");
-    Bench { queue, count: 0 }.plays(rt, steps);
-}
-
-const HOLDS_DEPTH: [Step; 11] = [
-    Receive(Simple, 1, 1, true),
-    Room(true),
-    Receive(Simple, 2, 1, true),
-    Room(false),
-    Receive(Ordered, 3, 2, false),
-    Eligible(2),
-    Take(1, Some(2)),
-    Room(true),
-    IsEmpty(false),
-    Leave(0, Some(1)),
-    IsEmpty(true),
-];
-
-#[test]
-fn holds_depth(rt: HostRuntime) {
-    plays(&rt, rt.alloc(), 2, &HOLDS_DEPTH);
-}
-
-// 0: SIMPLE at block 1; 1: SIMPLE at block 1; 2: SIMPLE at block 2; 3: ORDERED; 4: SIMPLE.
-const KEEPS_ORDERED_ONES_IN_ORDER: [Step; 24] = [
-    Receive(Simple, 1, 1, true),
-    Receive(Simple, 1, 1, true),
-    Receive(Simple, 2, 1, true),
-    Receive(Ordered, 9, 1, true),
-    Receive(Simple, 3, 1, true),
-    Eligible(2),
-    Peek(0, Some(0), Some(1)),
-    Peek(2, None, None),
-    Peek(1, Some(2), Some(2)),
-    Take(1, Some(2)),
-    Eligible(1),
-    Peek(0, Some(0), Some(1)),
-    Take(0, Some(1)),
-    Eligible(1),
-    Peek(0, Some(1), Some(1)),
-    Take(0, Some(1)),
-    Eligible(1),
-    Peek(0, Some(3), Some(9)),
-    Take(0, Some(9)),
-    Eligible(1),
-    Peek(0, Some(4), Some(3)),
-    Take(0, Some(3)),
-    Eligible(0),
-    Take(0, None),
-];
-
-#[test]
-fn keeps_ordered_ones_in_order(rt: HostRuntime) {
-    plays(&rt, rt.alloc(), 8, &KEEPS_ORDERED_ONES_IN_ORDER);
-}
-
-// Blocks 5 to 7, 7 and 8, and 8 and 9: the third has no block of the first, but waits for the second.
-const KEEPS_BLOCKS_IN_ORDER: [Step; 9] = [
-    Receive(Simple, 5, 3, true),
-    Receive(Simple, 7, 2, true),
-    Receive(Simple, 8, 2, true),
-    Eligible(1),
-    Take(0, Some(5)),
-    Eligible(1),
-    Take(0, Some(7)),
-    Eligible(1),
-    Take(0, Some(8)),
-];
-
-#[test]
-fn keeps_blocks_in_order(rt: HostRuntime) {
-    plays(&rt, rt.alloc(), 3, &KEEPS_BLOCKS_IN_ORDER);
-}
-
-// What a test does with a ring, each with the answer that it expects.
-#[derive(Clone, Copy, PartialEq, Eq, Debug)]
+// What a test does with a ring.
+#[derive(Clone, Copy)]
 enum Turn {
     // A command of so many blocks from this one on goes in where there is room; and whether the ring is full then.
-    Push(u8, u8, bool),
-    // The first block of the first command, and how many it has. The command leaves.
-    Remove(Option<(u32, u32)>),
+    Push(u8, u8),
+    // The parts of the first command, which leaves.
+    Remove,
+    IsFull,
 }
 
-use Turn::{Push, Remove};
+use Turn::{IsFull, Push, Remove};
 
-// The first command's first block, and how many it has.
-fn first_of(ring: &CommandRing) -> Option<(u32, u32)> {
-    let command = ring.first()?;
-    Some((command.parts.get(0)?.block, command.parts.len()))
-}
-
-fn turned(ring: &mut CommandRing, turn: Turn) -> Turn {
-    match turn {
-        Push(first, blocks, _) => {
-            if !ring.is_full() {
-                ring.push(&command(Simple, first, blocks));
+impl Player<Turn> for CommandRing {
+    fn done(&mut self, turn: Turn) -> Answer {
+        match turn {
+            Push(first, blocks) => {
+                if !self.is_full() {
+                    self.push(&command(Simple, first, blocks));
+                }
+                Is(self.is_full())
             }
-            Push(first, blocks, ring.is_full())
-        }
-        Remove(_) => {
-            let first = first_of(ring);
-            ring.remove_first();
-            Remove(first)
+            Remove => {
+                let first = parts_of(self.first());
+                self.remove_first();
+                Parts(first)
+            }
+            IsFull => Is(self.is_full()),
         }
     }
 }
 
-// Three slots: the commands at blocks 40 and 50 lie where those at 10 and 20 lay.
-const ROUND: [Turn; 12] = [
-    Remove(None),
-    Push(10, 2, false),
-    Push(20, 3, false),
-    Push(30, 1, true),
-    Remove(Some((10, 2))),
-    Push(40, 1, true),
-    Remove(Some((20, 3))),
-    Push(50, 4, true),
-    Remove(Some((30, 1))),
-    Remove(Some((40, 1))),
-    Remove(Some((50, 4))),
-    Remove(None),
+// The steps of new rings of so many slots.
+static RINGS: [(&str, u32, &[(Turn, Answer)]); 2] = [
+    // The commands at blocks 40 and 50 lie where those at 10 and 20 lay.
+    (
+        "three slots",
+        3,
+        &[
+            (Remove, Parts(None)),
+            (Push(10, 2), Is(false)),
+            (Push(20, 3), Is(false)),
+            (Push(30, 1), Is(true)),
+            (Remove, Parts(Some((10, 2)))),
+            (Push(40, 1), Is(true)),
+            (Remove, Parts(Some((20, 3)))),
+            (Push(50, 4), Is(true)),
+            (Remove, Parts(Some((30, 1)))),
+            (Remove, Parts(Some((40, 1)))),
+            (Remove, Parts(Some((50, 4)))),
+            (Remove, Parts(None)),
+        ],
+    ),
+    ("no slots", 0, &[(IsFull, Is(true)), (Remove, Parts(None))]),
 ];
 
-fn goes_round(rt: &impl Abort, ring: &mut CommandRing) {
-    for (at, turn) in ROUND.iter().enumerate() {
-        expect_step(rt, at, &turned(ring, *turn), turn);
+#[test]
+fn rings_do_what_their_rows_tell(rt: HostRuntime) {
+    for row in &RINGS {
+        let (name, slots, steps) = *row;
+        let mut ring = CommandRing::make(rt.alloc(), slots).expect(&rt, "no ring");
+        plays(&rt, &mut ring, name, steps);
+        drop(ring);
     }
-}
-
-#[test]
-fn ring_wraps_round(rt: HostRuntime) {
-    let mut ring = CommandRing::make(rt.alloc(), 3).expect(&rt, "no ring");
-    goes_round(&rt, &mut ring);
-}
-
-#[test]
-fn ring_of_no_slots_is_full(rt: HostRuntime) {
-    let ring = CommandRing::make(rt.alloc(), 0).expect(&rt, "no ring");
-    let found = (ring.is_full(), ring.first().is_none());
-    expect(&rt, &found, &(true, true));
 }
