@@ -3,7 +3,8 @@ ghost use Rattle.std.specs.Prelude.{◌≡◌, ◌+◌, ◌<◌};
 ghost use Rattle.device_tests.specs.Asked.{IsNext};
 
 use blk_base::{Block, Image};
-use order_model::{Command, Completion, CutDisk, OrderedDev, Part, Parts, Priority};
+use order_model::{Command, Completion, OrderedDev, Part, Parts, Priority, ReadFault};
+use std::fmt::Debug;
 use std::process::Abort;
 
 fn part_of(id: u64, block: u32, fill: u8) -> Part
@@ -54,8 +55,179 @@ pub(crate) fn flush(id: u64) -> Command
     }
 }
 
-// A put's block, the byte that it is filled with, and whether it is a barrier.
-pub(crate) type Row = (u32, u8, bool);
+// What a device is given, under the next ids.
+#[derive(Clone, Copy)]
+pub(crate) enum Give {
+    // A put of this block, filled with this byte, and whether it is a barrier.
+    Put(u32, u8, bool),
+    // A command of two puts, of this block and the next one.
+    Two(u32),
+    // The same by the call that copies the command.
+    Lent(u32),
+    Flush,
+}
+
+// A command with the ids `from` to `to`.
+#[derive(Drop)]
+pub(crate) struct Sending {
+    pub(crate) from: u64,
+    pub(crate) to: u64,
+    pub(crate) command: Command,
+    ghost next: { IsNext from to command },
+}
+
+// What is given, from this id on.
+pub(crate) fn asked(rt: &impl Abort, from: u64, give: Give) -> Sending
+    requires { from < 64 }
+    ensures { result.from ≡ from }
+{
+    match give {
+        Give::Put(block, fill, barrier) => {
+            assert!(rt; block < 4);
+            Sending {
+                from,
+                to: from + 1,
+                command: put(from, block, fill, barrier),
+            }
+        }
+        Give::Two(block) | Give::Lent(block) => {
+            assert!(rt; block < 3);
+            Sending {
+                from,
+                to: from + 2,
+                command: put_two(rt, from, block),
+            }
+        }
+        Give::Flush => Sending {
+            from,
+            to: from + 1,
+            command: flush(from),
+        },
+    }
+}
+
+// What a test does with a device.
+#[derive(Clone, Copy)]
+pub(crate) enum Step {
+    CanTransfer,
+    Transfer(u32),
+    // The first transfer so often, and whether each was made.
+    Transfers(u32),
+    CanPersist,
+    Persist(u32),
+    // The first write so often, and whether each was made.
+    Persists(u32),
+    Next,
+    Room,
+    Quiet,
+    Blocks,
+    // Whether the block is filled with this byte.
+    Read(u32, u8),
+    Trace,
+}
+
+// What a step tells.
+#[derive(Clone, Copy, PartialEq, Eq, Debug)]
+pub(crate) enum Answer {
+    Is(bool),
+    Count(u32),
+    Told(Option<Completion>),
+    // What was taken, what was moved, what was sent, and the steps.
+    Counts(usize, usize, usize, u64),
+    // A read that fails.
+    Fault,
+    // A read that may not be asked for: the device is not quiet, or has no such block.
+    Early,
+}
+
+use Answer::{Count, Counts, Early, Fault, Is, Told};
+
+fn read<D: OrderedDev>(device: &mut D, block: u32, fill: u8) -> Answer {
+    if !device.is_quiet() {
+        return Early;
+    }
+    if block >= device.blocks() {
+        return Early;
+    }
+    match device.read(block) {
+        Ok(body) => Is(body == Block::fill(fill)),
+        Err(ReadFault) => Fault,
+    }
+}
+
+// The first transfer, or the first write, so often; and whether each was made.
+fn repeats<D: OrderedDev>(device: &mut D, count: u32, writes: bool) -> bool {
+    for _ in 0..count {
+        let made = if writes {
+            device.persist(0)
+        } else {
+            device.transfer(0)
+        };
+        if !made {
+            return false;
+        }
+    }
+    true
+}
+
+fn counts<D: OrderedDev>(device: &D) -> Answer {
+    let trace = device.trace();
+    let moved = trace.moved.as_slice().len();
+    Counts(
+        trace.took.len(),
+        moved,
+        trace.sent.as_slice().len(),
+        trace.steps,
+    )
+}
+
+// Does the step, and gives the answer that came.
+fn done<D: OrderedDev>(device: &mut D, step: Step) -> Answer {
+    match step {
+        Step::CanTransfer => Count(device.can_transfer()),
+        Step::Transfer(pick) => Is(device.transfer(pick)),
+        Step::Transfers(count) => Is(repeats(device, count, false)),
+        Step::CanPersist => Count(device.can_persist()),
+        Step::Persist(pick) => Is(device.persist(pick)),
+        Step::Persists(count) => Is(repeats(device, count, true)),
+        Step::Next => Told(device.answer()),
+        Step::Room => Is(device.room()),
+        Step::Quiet => Is(device.is_quiet()),
+        Step::Blocks => Count(device.blocks()),
+        Step::Read(block, fill) => read(device, block, fill),
+        Step::Trace => counts(device),
+    }
+}
+
+// The device does the steps. The first with another answer than the one beside it ends the process.
+pub(crate) fn plays<D: OrderedDev>(
+    rt: &impl Abort,
+    row: &str,
+    device: &mut D,
+    steps: &[(Step, Answer)],
+) {
+    for (at, step) in steps.iter().enumerate() {
+        expect(rt, row, at, &done(device, step.0), &step.1);
+    }
+}
+
+// Ends the process where the two differ, and tells both with the row and the place in it.
+pub(crate) fn expect<T: PartialEq + Debug>(
+    rt: &impl Abort,
+    row: &str,
+    at: usize,
+    came: &T,
+    wanted: &T,
+) {
+    assert_eq!(rt; came, wanted, "{row}: {at}");
+}
+
+// What a power cut leaves: the steps before it, the bytes that the four blocks are filled with, and the puts that they are of.
+pub(crate) struct Left {
+    pub(crate) steps: u64,
+    pub(crate) fills: [u8; 4],
+    pub(crate) origins: &'static [Option<u64>],
+}
 
 // The four blocks of the image are filled with these bytes.
 fn is_filled(image: &Image, fills: [u8; 4]) -> bool {
@@ -70,79 +242,12 @@ fn is_filled(image: &Image, fills: [u8; 4]) -> bool {
     true
 }
 
-// What a test does with a device, each with the answer that it expects.
-#[derive(Clone, Copy, PartialEq, Eq, Debug)]
-pub(crate) enum Step {
-    CanTransfer(u32),
-    Transfer(u32, bool),
-    CanPersist(u32),
-    Persist(u32, bool),
-    Answer(Option<Completion>),
-    Room(bool),
-    Quiet(bool),
-    // What was taken, what was moved, what was sent, and the steps.
-    Counts(usize, usize, usize, u64),
-}
-
-use Step::{Answer, CanPersist, CanTransfer, Counts, Persist, Quiet, Room, Transfer};
-
-// The step with the answer that came.
-fn done<D: OrderedDev>(device: &mut D, step: Step) -> Step {
-    match step {
-        CanTransfer(_) => CanTransfer(device.can_transfer()),
-        Transfer(pick, _) => Transfer(pick, device.transfer(pick)),
-        CanPersist(_) => CanPersist(device.can_persist()),
-        Persist(pick, _) => Persist(pick, device.persist(pick)),
-        Answer(_) => Answer(device.answer()),
-        Room(_) => Room(device.room()),
-        Quiet(_) => Quiet(device.is_quiet()),
-        Counts(..) => {
-            let trace = device.trace();
-            Counts(
-                trace.took.len(),
-                trace.moved.as_slice().len(),
-                trace.sent.as_slice().len(),
-                trace.steps,
-            )
-        }
-    }
-}
-
-// The device does the steps. The first with another answer than it names ends the process.
-pub(crate) fn plays<D: OrderedDev>(rt: &impl Abort, device: &mut D, steps: &[Step]) {
-    for (at, step) in steps.iter().enumerate() {
-        assert_eq!(rt; done(device, *step), *step, "step {at}");
-    }
-}
-
-// The same step so often.
-pub(crate) fn repeats<D: OrderedDev>(rt: &impl Abort, device: &mut D, count: u32, step: Step) {
-    for at in 0..count {
-        assert_eq!(rt; done(device, step), step, "time {at}");
-    }
-}
-
-// The blocks of the disk are filled with these bytes, of these puts.
-fn expect_disk(
-    rt: &impl Abort,
-    disk: &CutDisk,
-    steps: u64,
-    fills: [u8; 4],
-    origins: [Option<u64>; 4],
-) {
-    assert!(rt; is_filled(&disk.image, fills));
-    let came = (disk.trace.steps, disk.origins.as_slice());
-    assert_eq!(rt; came, (steps, origins.as_slice()));
-}
-
-// The power goes off after so many steps. The blocks are filled with these bytes, of these puts.
-pub(crate) fn leaves<D: OrderedDev>(
-    rt: &impl Abort,
-    device: D,
-    steps: u64,
-    fills: [u8; 4],
-    origins: [Option<u64>; 4],
-) {
+// The power goes off behind so many steps of the row.
+pub(crate) fn leaves<D: OrderedDev>(rt: &impl Abort, row: &str, at: usize, device: D, left: &Left) {
     let disk = device.cut();
-    expect_disk(rt, &disk, steps, fills, origins);
+    let is_filled = is_filled(&disk.image, left.fills);
+    let came = (is_filled, disk.trace.steps, disk.origins.as_slice());
+    let wanted = (true, left.steps, left.origins);
+    expect(rt, row, at, &came, &wanted);
+    drop(disk);
 }

@@ -3,28 +3,49 @@ ghost use Rattle.std.specs.Prelude.{◌≡◌, ◌+◌, ◌<◌, ◌≤◌};
 ghost use Rattle.device_tests.specs.Asked.{IsNext};
 ghost use Rattle.device_tests.specs.flash_log.Asked.{HasTaken};
 
-use crate::steps::Step::{Answer, CanPersist, CanTransfer, Counts, Persist, Quiet, Room, Transfer};
-use crate::steps::{Row, flush, leaves, plays, put, put_two, repeats};
-use blk_base::{Block, Image};
+use crate::steps::Answer::{self, Count, Counts, Is, Told};
+use crate::steps::Give::{self, Flush, Lent, Put};
+use crate::steps::Step::{
+    self, CanPersist, CanTransfer, Next, Persist, Persists, Quiet, Read, Room, Trace, Transfer,
+    Transfers,
+};
+use crate::steps::{Left, Sending, asked, expect, leaves, plays, put, put_two};
+use blk_base::Image;
 use flog_device::{FlogDevice, FlogSetup};
-use order_model::{Command, Completion, OrderedDev};
+use order_model::Completion::{Cut, Failed, Flushed, Moved};
+use order_model::{Command, OrderedDev};
 use std::alloc::Global;
 use std::process::Abort;
 
-// The transfer that fails, and the steps after which the power is off.
-#[derive(Clone, Copy)]
-struct Faults {
+// What is given to a new device, what it then does, and what is left once its power goes off.
+struct Row {
+    name: &'static str,
+    // From 1 to 64.
+    depth: u32,
+    // The transfer that fails, and the steps after which the power is off.
     fail_at: Option<u64>,
     cut_at: Option<u64>,
+    gives: &'static [Give],
+    steps: &'static [(Step, Answer)],
+    left: Left,
 }
 
-const NO_FAULTS: Faults = Faults {
-    fail_at: None,
-    cut_at: None,
-};
+// A device that took the ids below `count`.
+#[derive(Drop)]
+struct Bench {
+    device: FlogDevice,
+    count: u64,
+    ghost taken: { HasTaken device count },
+}
 
 // A device of four blocks of zeros and three segments, for 64 ids.
-fn device(rt: &impl Abort, alloc: Global, depth: u32, faults: Faults) -> FlogDevice
+fn device(
+    rt: &impl Abort,
+    alloc: Global,
+    depth: u32,
+    fail_at: Option<u64>,
+    cut_at: Option<u64>,
+) -> FlogDevice
     requires { (1 ≤ depth) × (depth ≤ 64) }
     ensures { HasTaken result 0 }
 {
@@ -33,21 +54,10 @@ fn device(rt: &impl Abort, alloc: Global, depth: u32, faults: Faults) -> FlogDev
         depth,
         limit: 64,
         segments: 3,
-        fail_at: faults.fail_at,
-        cut_at: faults.cut_at,
+        fail_at,
+        cut_at,
     };
     FlogDevice::make(alloc, image, setup).expect(rt, "no device")
-}
-
-// The block is filled with this byte, once the device is quiet.
-fn reads(rt: &impl Abort, device: &mut FlogDevice, block: u32, fill: u8) {
-    assert!(rt; device.is_quiet());
-    assert!(rt; block < device.blocks());
-    assert!(rt;
-        device
-            .read(block)
-            .is_ok_and(|body| body == Block::fill(fill))
-    );
 }
 
 // The device takes the command, which has the ids `from` to `to`.
@@ -61,7 +71,7 @@ fn give(rt: &impl Abort, device: &mut FlogDevice, from: u64, to: u64, c: Command
 }
 
 // The device takes a put of this block, filled with this byte and maybe a barrier, under the next id.
-fn give_put(rt: &impl Abort, device: &mut FlogDevice, id: u64, row: Row)
+fn give_put(rt: &impl Abort, device: &mut FlogDevice, id: u64, row: (u32, u8, bool))
     requires taken { HasTaken device.old id }
     requires few { id < 64 }
     ensures { HasTaken device.new (id + 1) }
@@ -69,16 +79,6 @@ fn give_put(rt: &impl Abort, device: &mut FlogDevice, id: u64, row: Row)
     let (block, fill, barrier) = row;
     assert!(rt; block < 4);
     give(rt, device, id, id + 1, put(id, block, fill, barrier));
-}
-
-fn give_three(rt: &impl Abort, device: &mut FlogDevice, rows: [Row; 3])
-    requires { HasTaken device.old 0 }
-    ensures { HasTaken device.new 3 }
-{
-    let [first, second, third] = rows;
-    give_put(rt, device, 0, first);
-    give_put(rt, device, 1, second);
-    give_put(rt, device, 2, third);
 }
 
 // The same by the call that copies the command.
@@ -113,196 +113,276 @@ fn give_many(rt: &impl Abort, device: &mut FlogDevice)
     }
 }
 
-// Puts of the blocks 0, 1 and 2 are transferred, and the pages of the last two programmed.
-fn with_gap(rt: &impl Abort, alloc: Global) -> FlogDevice {
-    let mut device = device(rt, alloc, 32, NO_FAULTS);
-    let puts = [(0, 0x11, false), (1, 0x22, false), (2, 0x33, false)];
-    give_three(rt, &mut device, puts);
-    let steps = [
-        CanTransfer(1),
-        Transfer(1, false),
-        Transfer(0, true),
-        Transfer(0, true),
-        Transfer(0, true),
-        CanPersist(3),
-        Persist(3, false),
-        Persist(1, true),
-        Persist(1, true),
-        CanPersist(1),
-        Counts(3, 3, 0, 5),
-    ];
-    plays(rt, &mut device, &steps);
-    device
+impl Bench {
+    fn takes(&mut self, rt: &impl Abort, what: Give) {
+        assert!(rt; self.count < 62);
+        let Sending { from, to, command } = asked(rt, self.count, what);
+        assert!(rt; to <= 64);
+        give(rt, &mut self.device, from, to, command);
+        self.count = to;
+    }
 }
 
-#[test]
-fn pages_behind_a_gap_are_dropped(rt: HostRuntime) {
-    let device = with_gap(&rt, rt.alloc());
-    leaves(&rt, device, 5, [0; 4], [None; 4]);
+fn plays_row(rt: &impl Abort, alloc: Global, row: &Row) {
+    assert!(rt; 1 <= row.depth && row.depth <= 64);
+    let device = device(rt, alloc, row.depth, row.fail_at, row.cut_at);
+    let mut bench = Bench { device, count: 0 };
+    for what in row.gives {
+        bench.takes(rt, *what);
+    }
+    let Bench { mut device, .. } = bench;
+    plays(rt, row.name, &mut device, row.steps);
+    leaves(rt, row.name, row.steps.len(), device, &row.left);
 }
 
-#[test]
-fn pages_are_kept_once_the_gap_is_filled(rt: HostRuntime) {
-    let mut device = with_gap(&rt, rt.alloc());
-    plays(&rt, &mut device, &[Persist(0, true), CanPersist(1)]);
-    let origins = [Some(0), Some(1), Some(2), None];
-    leaves(&rt, device, 6, [0x11, 0x22, 0x33, 0], origins);
-}
+static ROWS: [Row; 7] = [
+    // Puts of the blocks 0, 1 and 2 are transferred, and the pages of the last two programmed.
+    Row {
+        name: "pages behind a gap are dropped",
+        depth: 32,
+        fail_at: None,
+        cut_at: None,
+        gives: &[
+            Put(0, 0x11, false),
+            Put(1, 0x22, false),
+            Put(2, 0x33, false),
+        ],
+        steps: &[
+            (CanTransfer, Count(1)),
+            (Transfer(1), Is(false)),
+            (Transfer(0), Is(true)),
+            (Transfer(0), Is(true)),
+            (Transfer(0), Is(true)),
+            (CanPersist, Count(3)),
+            (Persist(3), Is(false)),
+            (Persist(1), Is(true)),
+            (Persist(1), Is(true)),
+            (CanPersist, Count(1)),
+            (Trace, Counts(3, 3, 0, 5)),
+        ],
+        left: Left {
+            steps: 5,
+            fills: [0, 0, 0, 0],
+            origins: &[None, None, None, None],
+        },
+    },
+    Row {
+        name: "pages are kept once the gap is filled",
+        depth: 32,
+        fail_at: None,
+        cut_at: None,
+        gives: &[
+            Put(0, 0x11, false),
+            Put(1, 0x22, false),
+            Put(2, 0x33, false),
+        ],
+        steps: &[
+            (CanTransfer, Count(1)),
+            (Transfer(1), Is(false)),
+            (Transfer(0), Is(true)),
+            (Transfer(0), Is(true)),
+            (Transfer(0), Is(true)),
+            (CanPersist, Count(3)),
+            (Persist(3), Is(false)),
+            (Persist(1), Is(true)),
+            (Persist(1), Is(true)),
+            (CanPersist, Count(1)),
+            (Trace, Counts(3, 3, 0, 5)),
+            (Persist(0), Is(true)),
+            (CanPersist, Count(1)),
+        ],
+        left: Left {
+            steps: 6,
+            fills: [0x11, 0x22, 0x33, 0],
+            origins: &[Some(0), Some(1), Some(2), None],
+        },
+    },
+    // A flush goes once each page is programmed. What was put is then read from the log.
+    Row {
+        name: "flush waits for the pages",
+        depth: 4,
+        fail_at: None,
+        cut_at: None,
+        gives: &[Put(1, 0x11, false), Flush],
+        steps: &[
+            (Transfer(0), Is(true)),
+            (Transfer(0), Is(false)),
+            (CanTransfer, Count(0)),
+            (Persist(0), Is(true)),
+            (Transfer(0), Is(true)),
+            (Quiet, Is(false)),
+            (Next, Told(Some(Moved(0)))),
+            (Next, Told(Some(Flushed(1)))),
+            (Next, Told(None)),
+            (Trace, Counts(2, 1, 2, 3)),
+            (Quiet, Is(true)),
+            (CanPersist, Count(1)),
+            (Read(0, 0), Is(true)),
+            (Read(1, 0x11), Is(true)),
+        ],
+        left: Left {
+            steps: 3,
+            fills: [0, 0x11, 0, 0],
+            origins: &[None, Some(0), None, None],
+        },
+    },
+    // Two puts of block 0: the fold of the first one leaves what the second one wrote.
+    Row {
+        name: "fold leaves a later page of the block",
+        depth: 4,
+        fail_at: None,
+        cut_at: None,
+        gives: &[
+            Put(0, 0x11, false),
+            Put(0, 0x22, false),
+            Put(1, 0x33, false),
+        ],
+        steps: &[
+            (Transfers(3), Is(true)),
+            (Persist(0), Is(true)),
+            (Persist(0), Is(true)),
+            (CanPersist, Count(2)),
+            (Persist(1), Is(true)),
+            (CanPersist, Count(2)),
+        ],
+        left: Left {
+            steps: 6,
+            fills: [0x22, 0, 0, 0],
+            origins: &[Some(1), None, None, None],
+        },
+    },
+    // A page behind a gap has the block of the page that is folded, and does not count.
+    Row {
+        name: "fold passes over a page behind a gap",
+        depth: 4,
+        fail_at: None,
+        cut_at: None,
+        gives: &[
+            Put(0, 0x11, false),
+            Put(1, 0x22, false),
+            Put(0, 0x33, false),
+        ],
+        steps: &[
+            (Transfers(3), Is(true)),
+            (Persist(0), Is(true)),
+            (CanPersist, Count(3)),
+            (Persist(1), Is(true)),
+            (CanPersist, Count(2)),
+            (Persist(1), Is(true)),
+            (CanPersist, Count(1)),
+        ],
+        left: Left {
+            steps: 6,
+            fills: [0x11, 0, 0, 0],
+            origins: &[Some(0), None, None, None],
+        },
+    },
+    Row {
+        name: "power goes off after two steps",
+        depth: 4,
+        fail_at: None,
+        cut_at: Some(2),
+        gives: &[Put(0, 0x11, false), Put(1, 0x22, false)],
+        steps: &[
+            (Transfer(0), Is(true)),
+            (Persist(0), Is(true)),
+            (Room, Is(false)),
+            (CanTransfer, Count(0)),
+            (Transfer(0), Is(false)),
+            (CanPersist, Count(0)),
+            (Persist(0), Is(false)),
+            (Next, Told(Some(Moved(0)))),
+            (Next, Told(Some(Cut))),
+            (Next, Told(None)),
+            (Trace, Counts(2, 1, 2, 2)),
+        ],
+        left: Left {
+            steps: 2,
+            fills: [0x11, 0, 0, 0],
+            origins: &[Some(0), None, None, None],
+        },
+    },
+    // Of three transfers the second fails. What the first one moved is programmed and folded all the same.
+    Row {
+        name: "writes go on after a failed transfer",
+        depth: 4,
+        fail_at: Some(2),
+        cut_at: None,
+        gives: &[Put(0, 0x11, false), Put(1, 0x22, true), Put(2, 0x33, false)],
+        steps: &[
+            (Transfer(0), Is(true)),
+            (Transfer(0), Is(true)),
+            (Transfer(0), Is(false)),
+            (CanTransfer, Count(0)),
+            (CanPersist, Count(1)),
+            (Persist(0), Is(true)),
+            (Persist(0), Is(true)),
+            (CanPersist, Count(0)),
+            (Next, Told(Some(Moved(0)))),
+            (Next, Told(Some(Failed(1)))),
+            (Next, Told(None)),
+            (Room, Is(true)),
+            (Quiet, Is(false)),
+            (Trace, Counts(3, 1, 2, 4)),
+        ],
+        left: Left {
+            steps: 4,
+            fills: [0x11, 0, 0, 0],
+            origins: &[Some(0), None, None, None],
+        },
+    },
+];
 
-// A flush goes once each page is programmed. What was put is then read from the log.
 #[test]
-fn flush_waits_for_the_pages(rt: HostRuntime) {
-    let mut device = device(&rt, rt.alloc(), 4, NO_FAULTS);
-    give_put(&rt, &mut device, 0, (1, 0x11, false));
-    give(&rt, &mut device, 1, 2, flush(1));
-    let steps = [
-        Transfer(0, true),
-        Transfer(0, false),
-        CanTransfer(0),
-        Persist(0, true),
-        Transfer(0, true),
-        Quiet(false),
-        Answer(Some(Completion::Moved(0))),
-        Answer(Some(Completion::Flushed(1))),
-        Answer(None),
-        Counts(2, 1, 2, 3),
-        Quiet(true),
-        CanPersist(1),
-    ];
-    plays(&rt, &mut device, &steps);
-    reads(&rt, &mut device, 0, 0);
-    reads(&rt, &mut device, 1, 0x11);
-    drop(device);
+fn does_what_its_rows_tell(rt: HostRuntime) {
+    for row in &ROWS {
+        plays_row(&rt, rt.alloc(), row);
+    }
 }
 
 #[test]
 fn one_command_fills_a_queue_of_depth_one(rt: HostRuntime) {
-    let mut device = device(&rt, rt.alloc(), 1, NO_FAULTS);
+    let mut device = device(&rt, rt.alloc(), 1, None, None);
     let before = device.room();
     give_put(&rt, &mut device, 0, (0, 0x11, false));
     let behind = device.room();
     let refused = refuses(&mut device, 1, 2, put(1, 1, 0x22, false));
-    assert_eq!(rt; [before, behind, refused], [true, false, true]);
     drop(device);
+    let came = [before, behind, refused];
+    expect(&rt, "depth one", 0, &came, &[true, false, true]);
 }
+
+static FULL_LOG: [(Step, Answer); 15] = [
+    (Transfers(47), Is(true)),
+    (CanTransfer, Count(0)),
+    (CanPersist, Count(47)),
+    (Persists(47), Is(true)),
+    (Persists(15), Is(true)),
+    (CanTransfer, Count(0)),
+    (Transfer(0), Is(false)),
+    (Persist(0), Is(true)),
+    (CanTransfer, Count(1)),
+    (Transfer(0), Is(true)),
+    (CanPersist, Count(3)),
+    (Persists(35), Is(true)),
+    (CanPersist, Count(0)),
+    (Quiet, Is(true)),
+    (Read(3, 44), Is(true)),
+];
+
+static FULL_LOG_LEFT: Left = Left {
+    steps: 146,
+    fills: [45, 0x11, 0x22, 44],
+    origins: &[Some(44), Some(47), Some(48), Some(43)],
+};
 
 // 47 puts leave one place, so a command of two parts waits until a segment is erased. It then gets places
 // of a segment that was used before.
 #[test]
 fn full_log_goes_on_once_a_segment_is_erased(rt: HostRuntime) {
-    let mut device = device(&rt, rt.alloc(), 64, NO_FAULTS);
+    let mut device = device(&rt, rt.alloc(), 64, None, None);
     give_many(&rt, &mut device);
     lend(&rt, &mut device, 47, 49, &put_two(&rt, 47, 1));
-    repeats(&rt, &mut device, 47, Transfer(0, true));
-    plays(&rt, &mut device, &[CanTransfer(0), CanPersist(47)]);
-    repeats(&rt, &mut device, 47, Persist(0, true));
-    repeats(&rt, &mut device, 15, Persist(0, true));
-    plays(
-        &rt,
-        &mut device,
-        &[CanTransfer(0), Transfer(0, false), Persist(0, true)],
-    );
-    plays(
-        &rt,
-        &mut device,
-        &[CanTransfer(1), Transfer(0, true), CanPersist(3)],
-    );
-    repeats(&rt, &mut device, 35, Persist(0, true));
-    plays(&rt, &mut device, &[CanPersist(0), Quiet(true)]);
-    reads(&rt, &mut device, 3, 44);
-    let origins = [Some(44), Some(47), Some(48), Some(43)];
-    leaves(&rt, device, 146, [45, 0x11, 0x22, 44], origins);
-}
-
-// Two puts of block 0: the fold of the first one leaves what the second one wrote.
-#[test]
-fn fold_leaves_a_later_page_of_the_block(rt: HostRuntime) {
-    let mut device = device(&rt, rt.alloc(), 4, NO_FAULTS);
-    let puts = [(0, 0x11, false), (0, 0x22, false), (1, 0x33, false)];
-    give_three(&rt, &mut device, puts);
-    repeats(&rt, &mut device, 3, Transfer(0, true));
-    let steps = [
-        Persist(0, true),
-        Persist(0, true),
-        CanPersist(2),
-        Persist(1, true),
-        CanPersist(2),
-    ];
-    plays(&rt, &mut device, &steps);
-    leaves(&rt, device, 6, [0x22, 0, 0, 0], [Some(1), None, None, None]);
-}
-
-// A page behind a gap has the block of the page that is folded, and does not count.
-#[test]
-fn fold_passes_over_a_page_behind_a_gap(rt: HostRuntime) {
-    let mut device = device(&rt, rt.alloc(), 4, NO_FAULTS);
-    let puts = [(0, 0x11, false), (1, 0x22, false), (0, 0x33, false)];
-    give_three(&rt, &mut device, puts);
-    repeats(&rt, &mut device, 3, Transfer(0, true));
-    let steps = [
-        Persist(0, true),
-        CanPersist(3),
-        Persist(1, true),
-        CanPersist(2),
-        Persist(1, true),
-        CanPersist(1),
-    ];
-    plays(&rt, &mut device, &steps);
-    leaves(&rt, device, 6, [0x11, 0, 0, 0], [Some(0), None, None, None]);
-}
-
-#[test]
-fn power_goes_off_after_two_steps(rt: HostRuntime) {
-    let faults = Faults {
-        fail_at: None,
-        cut_at: Some(2),
-    };
-    let mut device = device(&rt, rt.alloc(), 4, faults);
-    give_put(&rt, &mut device, 0, (0, 0x11, false));
-    give_put(&rt, &mut device, 1, (1, 0x22, false));
-    let steps = [
-        Transfer(0, true),
-        Persist(0, true),
-        Room(false),
-        CanTransfer(0),
-        Transfer(0, false),
-        CanPersist(0),
-        Persist(0, false),
-        Answer(Some(Completion::Moved(0))),
-        Answer(Some(Completion::Cut)),
-        Answer(None),
-        Counts(2, 1, 2, 2),
-    ];
-    plays(&rt, &mut device, &steps);
-    leaves(&rt, device, 2, [0x11, 0, 0, 0], [Some(0), None, None, None]);
-}
-
-// Of three transfers the second fails. What the first one moved is programmed and folded all the same.
-#[test]
-fn writes_go_on_after_a_failed_transfer(rt: HostRuntime) {
-    let faults = Faults {
-        fail_at: Some(2),
-        cut_at: None,
-    };
-    let mut device = device(&rt, rt.alloc(), 4, faults);
-    let puts = [(0, 0x11, false), (1, 0x22, true), (2, 0x33, false)];
-    give_three(&rt, &mut device, puts);
-    let steps = [
-        Transfer(0, true),
-        Transfer(0, true),
-        Transfer(0, false),
-        CanTransfer(0),
-        CanPersist(1),
-        Persist(0, true),
-        Persist(0, true),
-        CanPersist(0),
-        Answer(Some(Completion::Moved(0))),
-        Answer(Some(Completion::Failed(1))),
-        Answer(None),
-        Room(true),
-        Quiet(false),
-        Counts(3, 1, 2, 4),
-    ];
-    plays(&rt, &mut device, &steps);
-    leaves(&rt, device, 4, [0x11, 0, 0, 0], [Some(0), None, None, None]);
+    plays(&rt, "full log", &mut device, &FULL_LOG);
+    leaves(&rt, "full log", FULL_LOG.len(), device, &FULL_LOG_LEFT);
 }
