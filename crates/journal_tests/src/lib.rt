@@ -8,6 +8,8 @@ mod images;
 #[cfg(test)]
 mod log_blocks;
 #[cfg(test)]
+mod logs;
+#[cfg(test)]
 mod made_images;
 #[cfg(test)]
 mod recovery;

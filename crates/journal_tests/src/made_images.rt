@@ -91,7 +91,7 @@ fn expect_blocks(rt: &impl Abort, image: &Image, long_names: bool) {
             made(at)
         };
         let same = at < image.len() && is_block(image.block(at), front, rest);
-        assert!(rt; same, "{at}");
+        assert!(rt; same, "block {at}, long names {long_names}");
     }
 }
 
@@ -99,53 +99,38 @@ fn expect_blocks(rt: &impl Abort, image: &Image, long_names: bool) {
 fn makes_each_block(rt: HostRuntime) {
     let image = new_image(&rt, rt.alloc(), DEFAULT_WIDTH, false);
     expect_blocks(&rt, &image, false);
+    drop(image);
+    let with_long_names = new_image(&rt, rt.alloc(), 30, false);
+    expect_blocks(&rt, &with_long_names, true);
+    drop(with_long_names);
     made_images_are_plain();
     made_maps_mark_the_root();
 }
 
-#[test]
-fn makes_each_block_of_a_volume_of_long_names(rt: HostRuntime) {
-    let image = new_image(&rt, rt.alloc(), 30, false);
-    expect_blocks(&rt, &image, true);
-}
-
-// The length of a new image, and the last byte of the features, which stand at 0x28 of the journal's superblock.
-fn length_and_features(rt: &impl Abort, alloc: Global, wide: bool) -> (u32, Option<u8>) {
-    let image = new_image(rt, alloc, DEFAULT_WIDTH, wide);
-    let features = if image.len() > 64 {
-        image.block(64).as_slice().get(0x2B).copied()
-    } else {
-        None
-    };
-    (image.len(), features)
-}
-
+// The last byte of the features stands at 0x2B of the journal's superblock.
 // 1 is for revoke blocks, and 2 for wide tags.
 #[test]
 fn a_journal_says_its_kind(rt: HostRuntime) {
     for (wide, features) in [(false, 1), (true, 3)] {
-        let found = length_and_features(&rt, rt.alloc(), wide);
-        assert_eq!(rt; found, (192, Some(features)), "{wide}");
+        let image = new_image(&rt, rt.alloc(), DEFAULT_WIDTH, wide);
+        assert!(rt; image.len() == 192, "{wide}");
+        let found = image.block(64).as_slice().get(0x2B).copied();
+        assert!(rt; found == Some(features), "{wide}");
     }
 }
 
 // Numbers of zones and of blocks of a journal, and what is told of them.
-const BAD_SIZES: [(u16, u32, MakeFault); 4] = [
+static BAD_SIZES: [(u16, u32, MakeFault); 4] = [
     (5, 128, MakeFault::TooSmall),
     (5, 127, MakeFault::TooSmall),
     (6, 127, MakeFault::JournalSize),
     (6, 16_385, MakeFault::JournalSize),
 ];
 
-// What an image of 32 inodes is refused with.
-fn make_fault(alloc: Global, zones: u16, journal: u32) -> Option<MakeFault> {
-    make_volume(alloc, 32, zones, journal, DEFAULT_WIDTH, false).err()
-}
-
 #[test]
 fn refuses_sizes(rt: HostRuntime) {
     for (zones, journal, fault) in &BAD_SIZES {
-        let told = make_fault(rt.alloc(), *zones, *journal);
+        let told = make_volume(rt.alloc(), 32, *zones, *journal, DEFAULT_WIDTH, false).err();
         assert!(rt; told == Some(*fault), "{zones} {journal}");
     }
 }
@@ -191,7 +176,7 @@ fn refused(
     fault
 }
 
-const FAILED: [(u64, Option<MountFault>); 3] = [
+static FAILED: [(u64, Option<MountFault>); 3] = [
     (1, Some(MountFault::DeviceFailed(0))),
     (2, Some(MountFault::DeviceFailed(1))),
     (3, None),
