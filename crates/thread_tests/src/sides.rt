@@ -6,7 +6,7 @@ ghost use Rattle.schedulers.specs.declared.reassign.scheduler.TheConstants.{CAPA
 ghost use Rattle.schedulers.specs.dispatch.Opened.{ArePassesOf, AreNew, AreNamed};
 ghost use Rattle.thread_sides.specs.Opened.{epoch_setup};
 
-use blk_base::{Block, Image, NoMemory};
+use blk_base::{Block, Image};
 use device_epochs::{DeviceSetup, EpochDevice};
 use order_model::{Completion, Inlet, Kind, Outlet, Request};
 use schedulers::dispatch::{
@@ -17,65 +17,63 @@ use std::alloc::Global;
 use std::marker::Brand;
 use std::process::Abort;
 use std::sync::Wait;
+use thread_sides::{DeviceEvent, DeviceSide, IdFlags, PartNames, SchedEvent, SchedSide};
 
-// What a test does, each with the answer that it expects: whether anything was done, or which id completed.
-#[derive(Clone, Copy, PartialEq, Eq, Debug)]
+// What a test does; whether anything was done, or whether the next completion is that of this id, stands beside it.
+#[derive(Clone, Copy)]
 enum Step {
     // A put with this id to the block of the same number.
-    Submit(u32, bool),
-    Accept(bool),
-    Dispatch(bool),
-    Receive(bool),
-    Transfer(bool),
-    Persist(bool),
-    Answer(bool),
+    Submit(u32),
+    Accept,
+    Dispatch,
+    Receive,
+    Transfer,
+    Persist,
+    Answer,
     Complete(Option<u64>),
 }
 
 use Step::{Accept, Answer, Complete, Dispatch, Persist, Receive, Submit, Transfer};
-use thread_sides::{
-    DeviceEvent, DeviceSide, IdFlags, PartNames, SchedEvent, SchedSide,
-};
 
 // Queues hold one item, and there are two ids.
-const STEPS: [Step; 31] = [
-    Submit(0, true),
-    Submit(1, false),
-    Accept(true),
-    Accept(false),
-    Submit(1, true),
-    Accept(true),
+static STEPS: [(Step, bool); 31] = [
+    (Submit(0), true),
+    (Submit(1), false),
+    (Accept, true),
+    (Accept, false),
+    (Submit(1), true),
+    (Accept, true),
     // An id that came before: its request is put aside, and no other is taken.
-    Submit(0, true),
-    Accept(true),
-    Submit(1, true),
-    Accept(false),
+    (Submit(0), true),
+    (Accept, true),
+    (Submit(1), true),
+    (Accept, false),
     // The second command finds the queue full, and is kept.
-    Dispatch(true),
-    Dispatch(true),
-    Dispatch(false),
-    Receive(true),
-    Dispatch(true),
-    Dispatch(false),
-    Receive(false),
-    Transfer(true),
-    Transfer(false),
-    Receive(true),
-    Transfer(true),
+    (Dispatch, true),
+    (Dispatch, true),
+    (Dispatch, false),
+    (Receive, true),
+    (Dispatch, true),
+    (Dispatch, false),
+    (Receive, false),
+    (Transfer, true),
+    (Transfer, false),
+    (Receive, true),
+    (Transfer, true),
     // The second completion too.
-    Answer(true),
-    Answer(true),
-    Answer(false),
-    Complete(Some(0)),
-    Answer(true),
-    Complete(Some(1)),
-    Complete(None),
-    Persist(true),
-    Persist(true),
-    Persist(false),
+    (Answer, true),
+    (Answer, true),
+    (Answer, false),
+    (Complete(Some(0)), true),
+    (Answer, true),
+    (Complete(Some(1)), true),
+    (Complete(None), true),
+    (Persist, true),
+    (Persist, true),
+    (Persist, false),
 ];
 
-const OF_SCHEDULER: [SchedEvent; 6] = [
+static OF_SCHEDULER: [SchedEvent; 6] = [
     SchedEvent::Accept,
     SchedEvent::Accept,
     SchedEvent::Accept,
@@ -84,7 +82,7 @@ const OF_SCHEDULER: [SchedEvent; 6] = [
     SchedEvent::Dispatch(0, false),
 ];
 
-const OF_DEVICE: [DeviceEvent; 9] = [
+static OF_DEVICE: [DeviceEvent; 9] = [
     DeviceEvent::Receive,
     DeviceEvent::Transfer(0),
     DeviceEvent::Receive,
@@ -115,28 +113,25 @@ fn id_of(completion: Option<Completion>) -> Option<u64> {
     }
 }
 
-// Whether a step did something; want of memory counts as nothing.
-fn did(step: Result<bool, NoMemory>) -> bool {
-    step.unwrap_or(false)
-}
-
+// Whether the step did something, or the completion came; want of memory counts as nothing.
 fn done<N: PartNames, H: Wait>(
     submit: &mut SubmitEnd<'_, N, H>,
     sched: &mut SchedSide<'_, Sched, N, H>,
     dev: &mut DeviceSide<'_, EpochDevice, N, H>,
     completion: &mut CompletionEnd<'_, N, H>,
     step: Step,
-) -> Step {
-    match step {
-        Submit(id, _) => Submit(id, submit.put(put(id)).is_ok()),
-        Accept(_) => Accept(did(sched.accept())),
-        Dispatch(_) => Dispatch(did(sched.dispatch(0))),
-        Receive(_) => Receive(did(dev.receive())),
-        Transfer(_) => Transfer(did(dev.transfer(0))),
-        Persist(_) => Persist(did(dev.persist(0))),
-        Answer(_) => Answer(did(dev.answer())),
-        Complete(_) => Complete(id_of(completion.take())),
-    }
+) -> bool {
+    let did = match step {
+        Submit(id) => Ok(submit.put(put(id)).is_ok()),
+        Accept => sched.accept(),
+        Dispatch => sched.dispatch(0),
+        Receive => dev.receive(),
+        Transfer => dev.transfer(0),
+        Persist => dev.persist(0),
+        Answer => dev.answer(),
+        Complete(id) => Ok(id_of(completion.take()) == id),
+    };
+    did == Ok(true)
 }
 
 fn plays<'a, N: PartNames, H: Wait + Sync + Abort>(
@@ -167,9 +162,9 @@ fn plays<'a, N: PartNames, H: Wait + Sync + Abort>(
     } = ends::<N, H>(rt, queues, passes);
     let mut sched = SchedSide::open(alloc, sched, sched_ids, request, send);
     let mut dev = DeviceSide::open(alloc, dev, device_ids, command, post);
-    for (at, step) in STEPS.iter().enumerate() {
-        let answer = done(&mut submit, &mut sched, &mut dev, &mut completion, *step);
-        assert_eq!(rt; answer, *step, "step {at}");
+    for (at, (step, wanted)) in STEPS.iter().enumerate() {
+        let came = done(&mut submit, &mut sched, &mut dev, &mut completion, *step);
+        assert!(rt; came == *wanted, "step {at}");
     }
     assert!(rt; sched.events() == OF_SCHEDULER.as_slice());
     assert!(rt; dev.events() == OF_DEVICE.as_slice());
