@@ -1,5 +1,5 @@
 //! Images that are checked.
-use crate::told::told;
+use crate::told::{expect_told, told};
 use std::alloc::Global;
 use std::process::Abort;
 
@@ -20,7 +20,7 @@ const ONES: [u8; 1016] = [0xff; 1016];
 
 // Changes of the image that `make 32 64 128` writes. Block 2 begins at byte 2,048 and has the map of the inodes, block 3
 // at 3,072 that of the zones; the root's inode is at 4,096, and its slots are at 5,120. The journal begins at 65,536.
-const MADE: [Row; 7] = [
+static MADE: [Row; 7] = [
     Row {
         what: "new",
         changes: &[],
@@ -118,7 +118,7 @@ const LOG_COMMIT: Part = Part {
 };
 
 // A volume of 32 inodes and 8 zones whose root names the device `null`, inode 2. Both maps are zeros.
-const WITH_DEVICE: [Part; 6] = [
+static WITH_DEVICE: [Part; 6] = [
     Part {
         at: 1024,
         bytes: b"\x20\x00\x08\x00\x01\x00\x01\x00\x05\x00\x00\x00\x00\x1c\x08\x10\x7f\x13\x01\x00",
@@ -145,7 +145,7 @@ const WITH_DEVICE: [Part; 6] = [
     },
 ];
 
-const WITH_MAPS: [Row; 3] = [
+static WITH_MAPS: [Row; 3] = [
     Row {
         what: "no maps",
         changes: &[],
@@ -176,7 +176,7 @@ const WITH_MAPS: [Row; 3] = [
 ];
 
 // Sessions whose images are clean: names that are long, and files that come, grow and go.
-const SESSIONS: [&str; 2] = [
+static SESSIONS: [&str; 2] = [
     "volume inodes 32 zones 64 journal 128 names 30\nthread 1\ncreate /abcdefghijklmno\nfsync /abcdefghijklmno\nevents\nround 100\n",
     "volume inodes 32 zones 64 journal 128\nthread 1\nmkdir /d\ncreate /d/a\nwrite /d/a 0 9000 61\nlink /d/a /b\nmkdir /d/e\nsync\nrename /d/e /e\nunlink /d/a\ntruncate /b 0\nfsync /b\ncreate /c\nevents\nround 300\n",
 ];
@@ -196,8 +196,7 @@ fn expect_rows(rt: &impl Abort, alloc: Global, image: &[u8], rows: &[Row]) {
         for part in row.changes {
             put(changed.as_mut_slice(), part);
         }
-        let found = told(rt, alloc, &["check"], changed.as_slice());
-        assert_eq!(rt; found.as_slice(), row.told.as_bytes(), "{}", row.what);
+        expect_told(rt, alloc, &["check"], &changed, row.told, row.what);
     }
 }
 
@@ -221,16 +220,12 @@ fn checks_a_foreign_image(rt: HostRuntime) {
 #[test]
 fn images_of_sessions_are_clean(rt: HostRuntime) {
     let alloc = rt.alloc();
-    for script in SESSIONS {
+    for script in &SESSIONS {
         let image = told(&rt, alloc, &["replay", "--raw"], script.as_bytes());
-        let found = told(&rt, alloc, &["check"], image.as_slice());
-        assert_eq!(rt; found.as_slice(), b"clean\n".as_slice(), "{script}");
-        let wide = told(&rt, alloc, &["widen", "--raw"], image.as_slice());
-        let found = told(&rt, alloc, &["check"], wide.as_slice());
-        assert_eq!(rt;
-            found.as_slice(),
-            b"clean\n".as_slice(),
-            "widened: {script}"
-        );
+        expect_told(&rt, alloc, &["check"], &image, "clean\n", script);
+        let wide = told(&rt, alloc, &["widen", "--raw"], &image);
+        expect_told(&rt, alloc, &["check"], &wide, "clean\n", "widened");
+        drop(wide);
+        drop(image);
     }
 }

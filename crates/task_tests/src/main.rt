@@ -17,6 +17,26 @@ mod told;
 #[cfg(test)]
 mod workloads;
 
+#[cfg(test)]
+mod rows {
+    use crate::told::expect_told;
+    use crate::{stores, threads, workloads};
+
+    #[test]
+    fn tells_what_its_rows_say(rt: HostRuntime) {
+        let tables = [
+            stores::ROWS.as_slice(),
+            workloads::ROWS.as_slice(),
+            threads::WITHOUT_THREADS.as_slice(),
+        ];
+        for rows in tables {
+            for (words, input, wanted) in rows {
+                expect_told(&rt, rt.alloc(), words, input.as_bytes(), wanted, input);
+            }
+        }
+    }
+}
+
 use barrierfs_top::run_program;
 use std::process::ExitCode;
 

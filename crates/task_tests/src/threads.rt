@@ -1,5 +1,5 @@
 //! Volume scripts in threads, by what goes out.
-use crate::told::{told, told_in_threads};
+use crate::told::{Row, expect_told, told_in_threads};
 
 // A session that comes to the same whatever its threads do: no byte is written, and one thread calls. Superblock, descriptor, five
 // bodies, commit block and flush; descriptor, three bodies and commit block; revoke, descriptor, four bodies, commit block and flush.
@@ -9,8 +9,7 @@ const MOVED: &str =
 
 const MOVED_TREE: &str = "dir /\nfile /f size 0 links 1\n";
 
-// Words, an input, and what is told of it.
-const ROWS: [(&[&str], &str, &str); 25] = [
+static ROWS: [Row; 25] = [
     (
         &["run"],
         MOVED,
@@ -121,17 +120,27 @@ fn runs_volume_scripts(rt: HostRuntime) {
 fn leaves_an_image(rt: HostRuntime) {
     let alloc = rt.alloc();
     let image = told_in_threads(&rt, alloc, &["run", "--raw"], MOVED.as_bytes());
-    let tree = told(&rt, alloc, &["show"], image.as_slice());
-    assert_eq!(rt; tree.as_slice(), MOVED_TREE.as_bytes());
-    let checked = told(&rt, alloc, &["check"], image.as_slice());
-    assert_eq!(rt; checked.as_slice(), b"clean\n".as_slice());
+    expect_told(
+        &rt,
+        alloc,
+        &["show"],
+        &image,
+        MOVED_TREE,
+        "the image of a run",
+    );
+    expect_told(
+        &rt,
+        alloc,
+        &["check"],
+        &image,
+        "clean\n",
+        "the image of a run",
+    );
+    drop(image);
 }
 
-// What needs no threads does not know the words.
-#[test]
-fn needs_threads(rt: HostRuntime) {
-    for words in [&["run"].as_slice(), &["run", "--raw"].as_slice()] {
-        let found = told(&rt, rt.alloc(), words, MOVED.as_bytes());
-        assert_eq!(rt; found.as_slice(), b"2: bad words".as_slice(), "{words:?}");
-    }
-}
+/// What needs no threads does not know the words.
+pub static WITHOUT_THREADS: [Row; 2] = [
+    (&["run"], MOVED, "2: bad words"),
+    (&["run", "--raw"], MOVED, "2: bad words"),
+];
