@@ -2,6 +2,7 @@
 ghost use Rattle.std.specs.Prelude.{◌≡◌};
 ghost use Rattle.blk_base.specs.Block.{filled};
 
+use crate::same::expect;
 use blk_base::{Block, BodySource};
 use commit_actor::{JournalPart, commit_step};
 use journal_blocks::JournalSuper;
@@ -89,35 +90,35 @@ fn set_up(rt: &impl Abort, alloc: Global) -> Setting {
     }
 }
 
+// The blocks that a call changes.
+static CHANGED: [u32; 3] = [2, 5, 4];
+
 impl Setting {
     // A call changed blocks 2, 5 and 4 and node 1, and the transaction is to be closed.
     fn change(&mut self, rt: &impl Abort, alloc: Global) {
-        self.part.reserve(alloc, 8).expect(rt, "no room");
-        for block in [2, 5, 4] {
-            if self.part.running().spare() > 0 && block < self.part.flush().blocks() {
-                self.part.touch(block);
+        let part = &mut self.part;
+        part.reserve(alloc, 8).expect(rt, "no room");
+        for block in &CHANGED {
+            if part.running().spare() > 0 && *block < part.flush().blocks() {
+                part.touch(*block);
             }
         }
-        if self.part.running().spare() > 0 {
-            self.part.change(1);
+        if part.running().spare() > 0 {
+            part.change(1);
         }
-        self.part.want_closed();
-    }
-
-    fn step(&mut self, alloc: Global) -> Turn {
-        commit_step(
-            alloc,
-            &mut self.part,
-            &mut self.pages,
-            &Fives,
-            &mut self.out,
-        )
+        part.want_closed();
     }
 
     // So many steps, up to the first that does nothing.
     fn steps(&mut self, alloc: Global, most: u32) -> Turn {
         for _ in 0..most {
-            let turn = self.step(alloc);
+            let turn = commit_step(
+                alloc,
+                &mut self.part,
+                &mut self.pages,
+                &Fives,
+                &mut self.out,
+            );
             if turn != Turn::Did {
                 return turn;
             }
@@ -125,46 +126,50 @@ impl Setting {
         Turn::Did
     }
 
-    // The block of the request that was sent first, and whether it is a barrier.
-    fn first_sent(&mut self) -> Option<(u32, bool)> {
-        let request = self.out.take()?;
+    // Whether the request that was sent first goes to this block, and is a barrier or none.
+    fn has_sent(&mut self, wanted: u32, barrier: bool) -> bool {
+        let Some(request) = self.out.take() else {
+            return false;
+        };
         match request.kind {
-            Kind::Put { block, .. } => Some((block, request.barrier)),
-            Kind::Flush => None,
+            Kind::Put { block, .. } => block == wanted && request.barrier == barrier,
+            Kind::Flush => false,
         }
     }
 }
 
-// Two changes, each with the steps that are taken of it: what it is, whether a call changes blocks, the steps that follow,
-// and the turn of the last one.
-static CHANGES: [(&str, bool, u32, Turn); 4] = [
-    ("new", false, 1, Turn::Idle),
-    ("the first change", true, 8, Turn::Did),
-    ("the first is done", false, 1, Turn::Idle),
-    ("the second change", true, 11, Turn::Did),
+// Two changes, each with the steps that are taken of it: whether a call changes blocks, the steps that follow, and the turn
+// of the last one. Nothing is to be done before the first one and between the two.
+static CHANGES: [(bool, u32, Turn); 4] = [
+    (false, 1, Turn::Idle),
+    (true, 8, Turn::Did),
+    (false, 1, Turn::Idle),
+    (true, 11, Turn::Did),
 ];
 
-fn change_twice(rt: &impl Abort, alloc: Global, session: &mut Setting) {
-    for (name, changes, most, turn) in &CHANGES {
+fn plays(rt: &impl Abort, alloc: Global, session: &mut Setting) {
+    for (at, (changes, most, turn)) in CHANGES.iter().enumerate() {
         if *changes {
             session.change(rt, alloc);
         }
-        assert_eq!(rt; session.steps(alloc, *most), *turn, "{name}");
+        expect(rt, "changes", at, session.steps(alloc, *most) == *turn);
     }
-}
-
-fn expect_sent(rt: &impl Abort, session: &mut Setting) {
-    assert!(rt; session.part.flush().notes() == NOTES.as_slice());
-    for put in &SENT {
-        assert_eq!(rt; session.first_sent(), Some(*put));
+    expect(
+        rt,
+        "notes",
+        0,
+        session.part.flush().notes() == NOTES.as_slice(),
+    );
+    for (at, (block, barrier)) in SENT.iter().enumerate() {
+        expect(rt, "sent", at, session.has_sent(*block, *barrier));
     }
 }
 
 #[test]
 fn plans_are_sent_and_bodies_go_home(rt: HostRuntime) {
     let mut session = set_up(&rt, rt.alloc());
-    change_twice(&rt, rt.alloc(), &mut session);
-    expect_sent(&rt, &mut session);
+    plays(&rt, rt.alloc(), &mut session);
+    drop(session);
     places_are_free_or_in_use();
     last_bodies_wait_to_be_sent_home();
     bodies_wait_until_they_are_sent();

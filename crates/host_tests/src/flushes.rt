@@ -1,6 +1,7 @@
 //! Tests of the flush actor.
 ghost use Rattle.std.specs.Prelude.{◌≡◌};
 
+use crate::same::expect;
 use blk_base::Block;
 use flush_actor::{CallKind, FlushPart, Wait, flush_step, take_step};
 use order_model::{Completion, Inlet, Kind, ListQueue, Note, Outlet, Request, Turn};
@@ -15,8 +16,108 @@ struct Setting {
     from: ListQueue<Completion>,
 }
 
+// What is done, with the turn that is wanted.
+#[derive(Clone, Copy)]
+enum Act {
+    // The commit block of transaction 1 is sent.
+    Commit(Turn),
+    // The journal superblock is sent.
+    Super(Turn),
+    // The device tells this, and the flush actor takes a step.
+    Tell(Completion, Turn),
+    // It tells nothing, and the flush actor takes a step.
+    Step(Turn),
+    // What the device told is taken, whatever is due.
+    Take(Turn),
+    // A request is taken from the queue, where one is there.
+    Send(bool),
+}
+
+// What is asked, with the answer that is wanted.
+#[derive(Clone, Copy)]
+enum Ask {
+    // What the call needs durable.
+    Need(u64),
+    // Whether a flush is due.
+    Due(bool),
+    // Whether a flush is due, was submitted and is done.
+    Flush(bool, bool, bool),
+    LastPut(u64),
+    LeastConflict(u32, u32),
+    FirstFailed(u64),
+    // Whether it was cut off, is over and is at its limit.
+    Ends(bool, bool, bool),
+    // Whether it was cut off.
+    Cut(bool),
+}
+
+// A call of this kind waits for the commit block of transaction 1, while this is done and then asked.
+struct Row {
+    name: &'static str,
+    kind: CallKind,
+    steps: &'static [(Act, &'static [Ask])],
+}
+
+static ROWS: [Row; 3] = [
+    Row {
+        name: "one flush serves a sync call",
+        kind: CallKind::FileSync,
+        steps: &[
+            (Act::Commit(Turn::Did), &[Ask::Need(0), Ask::Due(false)]),
+            (
+                Act::Tell(Completion::Moved(0), Turn::Did),
+                &[Ask::Flush(true, false, false)],
+            ),
+            (Act::Step(Turn::Did), &[Ask::Flush(false, true, false)]),
+            (
+                Act::Tell(Completion::Flushed(1), Turn::Did),
+                &[Ask::Flush(false, true, true)],
+            ),
+            (
+                Act::Step(Turn::Idle),
+                &[
+                    Ask::Flush(false, true, true),
+                    Ask::LastPut(0),
+                    Ask::LeastConflict(5, 2),
+                ],
+            ),
+        ],
+    },
+    // Behind a power cut nothing leaves the queue: the cut is heard of though a flush is due and finds no room.
+    Row {
+        name: "a power cut is heard while a flush finds no room",
+        kind: CallKind::FileSync,
+        steps: &[
+            (Act::Commit(Turn::Did), &[]),
+            (Act::Super(Turn::Did), &[]),
+            (Act::Tell(Completion::Moved(0), Turn::Did), &[]),
+            (Act::Tell(Completion::Cut, Turn::QueueFull), &[]),
+            (Act::Step(Turn::QueueFull), &[]),
+            (Act::Take(Turn::Did), &[Ask::Cut(true), Ask::Due(false)]),
+            (Act::Take(Turn::Idle), &[]),
+            (Act::Step(Turn::Idle), &[]),
+        ],
+    },
+    Row {
+        name: "nothing is due once it is over",
+        kind: CallKind::WholeSync,
+        steps: &[
+            (Act::Commit(Turn::Did), &[]),
+            (Act::Tell(Completion::Moved(0), Turn::Did), &[]),
+            (Act::Tell(Completion::Failed(0), Turn::Did), &[]),
+            (Act::Step(Turn::Did), &[]),
+            (Act::Step(Turn::Idle), &[]),
+            (
+                Act::Tell(Completion::Cut, Turn::Did),
+                &[Ask::FirstFailed(0), Ask::Ends(true, true, false)],
+            ),
+            (Act::Send(true), &[]),
+        ],
+    },
+];
+
 // A part of which a call of this kind waits for the commit block of transaction 1.
-fn waiting_part(rt: &impl Abort, alloc: Global, kind: CallKind) -> FlushPart {
+fn waiting(rt: &impl Abort, alloc: Global, kind: CallKind) -> FlushPart {
     let mut part = FlushPart::make(alloc, 4, 10, 1).expect(rt, "no part");
     part.hold(1, 7);
     part.hold(2, 5);
@@ -33,17 +134,6 @@ fn waiting_part(rt: &impl Abort, alloc: Global, kind: CallKind) -> FlushPart {
     part
 }
 
-// A call of this kind waits for the commit block of transaction 1, which was submitted.
-fn waiting(rt: &impl Abort, alloc: Global, kind: CallKind) -> Setting {
-    let mut session = Setting {
-        part: waiting_part(rt, alloc, kind),
-        out: ListQueue::make(alloc, 2).expect(rt, "no queue"),
-        from: ListQueue::make(alloc, 3).expect(rt, "no queue"),
-    };
-    session.commit(rt);
-    session
-}
-
 impl Setting {
     // A block that is filled with a byte is sent in order.
     fn put(&mut self, block: u32, byte: u8, barrier: bool, note: Note) -> Turn {
@@ -54,140 +144,93 @@ impl Setting {
         self.part.submit(kind, true, barrier, note, &mut self.out)
     }
 
-    // The commit block of transaction 1 is sent.
-    fn commit(&mut self, rt: &impl Abort) {
-        let turn = self.put(3, 1, true, Note::Commit { tx: 1 });
-        assert_eq!(rt; turn, Turn::Did);
-        if self.part.submitted() > 0 {
-            self.part.note_commit(1, 0);
-        }
-    }
-
-    // The device tells this, or nothing, and the flush actor takes a step.
-    fn step(&mut self, told: Option<Completion>) -> Turn {
-        if let Some(completion) = told {
-            let _ = self.from.put(completion);
-        }
+    // The flush actor takes a step, or takes what the device told.
+    fn step(&mut self, takes: bool) -> Turn {
         if self.part.taken() > self.part.limit() {
             return Turn::NoMemory;
         }
-        flush_step(&mut self.part, &mut self.out, &mut self.from)
-    }
-
-    // What the device told is taken, whatever is due.
-    fn take(&mut self) -> Turn {
-        if self.part.taken() > self.part.limit() {
-            return Turn::NoMemory;
+        if takes {
+            take_step(&mut self.part, &mut self.from)
+        } else {
+            flush_step(&mut self.part, &mut self.out, &mut self.from)
         }
-        take_step(&mut self.part, &mut self.from)
     }
 
-    // Whether a request is in the queue, which is taken from it then.
-    fn has_sent(&mut self) -> bool {
-        self.out.take().is_some()
-    }
-
-    // Whether a flush is due, was submitted and is done.
-    fn flush(&self) -> [bool; 3] {
-        [
-            self.part.flush_due(),
-            self.part.has_flush_above(0),
-            self.part.has_flushed_after(0),
-        ]
-    }
-}
-
-// What is told, the turn, and then of the flush.
-static SYNC_STEPS: [(Option<Completion>, Turn, [bool; 3]); 4] = [
-    (Some(Completion::Moved(0)), Turn::Did, [true, false, false]),
-    (None, Turn::Did, [false, true, false]),
-    (Some(Completion::Flushed(1)), Turn::Did, [false, true, true]),
-    (None, Turn::Idle, [false, true, true]),
-];
-
-fn expect_flush(rt: &impl Abort, session: &mut Setting) {
-    for (told, turn, flush) in &SYNC_STEPS {
-        assert_eq!(rt;
-            (session.step(*told), session.flush()),
-            (*turn, *flush),
-            "{told:?}"
-        );
+    // Does this, and tells whether it came as wanted.
+    fn does(&mut self, act: Act) -> bool {
+        match act {
+            Act::Commit(turn) => {
+                let came = self.put(3, 1, true, Note::Commit { tx: 1 });
+                if self.part.submitted() > 0 {
+                    self.part.note_commit(1, 0);
+                }
+                came == turn
+            }
+            Act::Super(turn) => self.put(4, 2, false, Note::Super) == turn,
+            Act::Tell(completion, turn) => {
+                let _ = self.from.put(completion);
+                self.step(false) == turn
+            }
+            Act::Step(turn) => self.step(false) == turn,
+            Act::Take(turn) => self.step(true) == turn,
+            Act::Send(has) => self.out.take().is_some() == has,
+        }
     }
 }
 
-#[test]
-fn one_flush_serves_a_sync_call(rt: HostRuntime) {
-    let mut session = waiting(&rt, rt.alloc(), CallKind::FileSync);
-    let need = session.part.wait(0).and_then(|wait| wait.need);
-    let due = session.part.flush_due();
-    expect_flush(&rt, &mut session);
-    let told = (session.part.last_put(), session.part.least_conflict());
+fn has_flush(part: &FlushPart) -> [bool; 3] {
+    [
+        part.flush_due(),
+        part.has_flush_above(0),
+        part.has_flushed_after(0),
+    ]
+}
+
+fn needs(part: &FlushPart, id: u64) -> bool {
+    match part.wait(0) {
+        Some(wait) => wait.need == Some(id),
+        None => false,
+    }
+}
+
+// Whether this is so of the part.
+fn tells(part: &FlushPart, ask: Ask) -> bool {
+    match ask {
+        Ask::Need(id) => needs(part, id),
+        Ask::Due(due) => part.flush_due() == due,
+        Ask::Flush(due, sent, done) => has_flush(part) == [due, sent, done],
+        Ask::LastPut(id) => part.last_put() == Some(id),
+        Ask::LeastConflict(block, tx) => part.least_conflict() == Some((block, tx)),
+        Ask::FirstFailed(id) => part.first_failed() == Some(id),
+        Ask::Ends(cut, over, limit) => {
+            [part.is_cut(), part.is_over(), part.at_limit()] == [cut, over, limit]
+        }
+        Ask::Cut(cut) => part.is_cut() == cut,
+    }
+}
+
+fn plays(rt: &impl Abort, alloc: Global, row: &Row) {
+    let mut session = Setting {
+        part: waiting(rt, alloc, row.kind),
+        out: ListQueue::make(alloc, 2).expect(rt, "no queue"),
+        from: ListQueue::make(alloc, 3).expect(rt, "no queue"),
+    };
+    for (at, (act, asks)) in row.steps.iter().enumerate() {
+        expect(rt, row.name, at, session.does(*act));
+        for ask in *asks {
+            expect(rt, row.name, at, tells(&session.part, *ask));
+        }
+    }
     drop(session);
-    assert_eq!(rt;
-        (need, due, told),
-        (Some(0), false, (Some(0), Some((5, 2))))
-    );
 }
 
-// The turn of a step behind each that is told.
-fn expect_turns(rt: &impl Abort, session: &mut Setting, rows: &[(Option<Completion>, Turn)]) {
-    for (told, turn) in rows {
-        assert_eq!(rt; session.step(*told), *turn, "{told:?}");
+#[test]
+fn flushes_go_as_calls_wait(rt: HostRuntime) {
+    for row in &ROWS {
+        plays(&rt, rt.alloc(), row);
     }
-}
-
-static CUT_STEPS: [(Option<Completion>, Turn); 3] = [
-    (Some(Completion::Moved(0)), Turn::Did),
-    (Some(Completion::Cut), Turn::QueueFull),
-    (None, Turn::QueueFull),
-];
-
-// Behind a power cut nothing leaves the queue: the cut is heard of though a flush is due and finds no room.
-#[test]
-fn power_cut_is_heard_while_a_flush_finds_no_room(rt: HostRuntime) {
-    let mut session = waiting(&rt, rt.alloc(), CallKind::FileSync);
-    let put = session.put(4, 2, false, Note::Super);
-    expect_turns(&rt, &mut session, &CUT_STEPS);
-    let taken = session.take();
-    let told = (session.part.is_cut(), session.part.flush_due());
-    let over = session.take();
-    let last = session.step(None);
-    drop(session);
-    let turns = [put, taken, over, last];
-    let wanted = [Turn::Did, Turn::Did, Turn::Idle, Turn::Idle];
-    assert_eq!(rt; (turns, told), (wanted, (true, false)));
-}
-
-static LAST_STEPS: [(Option<Completion>, Turn); 5] = [
-    (Some(Completion::Moved(0)), Turn::Did),
-    (Some(Completion::Failed(0)), Turn::Did),
-    (None, Turn::Did),
-    (None, Turn::Idle),
-    (Some(Completion::Cut), Turn::Did),
-];
-
-#[test]
-fn nothing_is_due_once_it_is_over(rt: HostRuntime) {
-    let mut session = waiting(&rt, rt.alloc(), CallKind::WholeSync);
-    expect_turns(&rt, &mut session, &LAST_STEPS);
-    let part = &session.part;
-    let failed = part.first_failed();
-    let ends = (part.is_cut(), part.is_over(), part.at_limit());
-    let has_sent = session.has_sent();
-    drop(session);
-    assert_eq!(rt;
-        (failed, ends, has_sent),
-        (Some(0), (true, true, false), true)
-    );
-}
-
-#[test]
-fn calls_have_kinds(rt: HostRuntime) {
-    let kinds = [
-        CallKind::FileSync.is_begun(),
-        CallKind::DataSync.is_data(),
-        CallKind::Reading.is_reading(),
-        CallKind::WholeSync.is_whole(),
-    ];
-    assert_eq!(rt; kinds, [true; 4]);
+    expect(&rt, "kinds", 0, CallKind::FileSync.is_begun());
+    expect(&rt, "kinds", 1, CallKind::DataSync.is_data());
+    expect(&rt, "kinds", 2, CallKind::Reading.is_reading());
+    expect(&rt, "kinds", 3, CallKind::WholeSync.is_whole());
 }

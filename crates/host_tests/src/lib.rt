@@ -13,6 +13,8 @@ mod flushes;
 pub mod machine;
 #[cfg(test)]
 mod pages;
+#[cfg(test)]
+mod same;
 pub mod still_calls;
 #[cfg(test)]
 mod volumes;

@@ -1,32 +1,71 @@
 //! Tests of the cache of pages.
+use crate::same::expect;
 use blk_base::Block;
-use page_cache::{
-    NoRoom, PageState, Pages, next_page_is_least, pages_are_a_map, pages_stand_in_order,
-};
-use std::alloc::Global;
-use std::process::Abort;
+use page_cache::{PageState, Pages, next_page_is_least, pages_are_a_map, pages_stand_in_order};
 
-// A page's file and index there, its block, the byte of its body and its version, and what setting it answers.
-const FULL: [(u64, u32, u32, u8, Result<(), NoRoom>); 5] = [
-    (7, 0, 40, 1, Ok(())),
-    (2, 9, 41, 2, Ok(())),
-    (7, 3, 42, 3, Ok(())),
-    (7, 1, 43, 4, Err(NoRoom)),
-    (2, 9, 44, 5, Ok(())),
-];
-
-fn expect_full(rt: &impl Abort, pages: &mut Pages) {
-    for (birth, index, block, byte, answer) in &FULL {
-        let set = pages.set(*birth, *index, *block, Block::fill(*byte), u64::from(*byte));
-        assert_eq!(rt; set, *answer, "{birth} {index}");
-    }
+// What is done with a page or asked of it, with the answer that is wanted. A body is filled with its first byte up to its last.
+#[derive(Clone, Copy)]
+enum Step {
+    // The page's block, the two bytes of its body and its version, and whether there was room.
+    Set(u32, u8, u8, u64, bool),
+    Drop,
+    Body(u8, u8),
+    Block(u32),
+    Version(u64),
+    State(Option<PageState>),
+    // The dirty page with this number, whatever its file.
+    Dirty(u64, u32),
+    // The unsent page from this one on.
+    Unsent(u64, u32),
+    // The unsent page of this file from this one on.
+    OfFile(u32),
 }
 
-// Pages 9 of file 2, and 0 and 3 of file 7, in a cache that has room for no other.
-fn full(rt: &impl Abort, alloc: Global) -> Pages {
-    let mut pages = Pages::load(alloc, 3).expect(rt, "no pages");
-    expect_full(rt, &mut pages);
-    pages
+// Pages by their file and their index there. The cache has room for pages 9 of file 2, and 0 and 3 of file 7, and no other.
+static ROWS: [(&str, &[(u64, u32, Step)]); 2] = [
+    // Page 0 of file 7 goes, and page 1 comes in its place.
+    (
+        "pages in order",
+        &[
+            (7, 0, Step::Set(40, 1, 1, 1, true)),
+            (2, 9, Step::Set(41, 2, 2, 2, true)),
+            (7, 3, Step::Set(42, 3, 3, 3, true)),
+            (7, 1, Step::Set(43, 4, 4, 4, false)),
+            (2, 9, Step::Set(44, 5, 5, 5, true)),
+            (2, 9, Step::Block(44)),
+            (2, 9, Step::Version(5)),
+            (0, 1, Step::Dirty(7, 0)),
+            (2, 9, Step::Body(5, 5)),
+            (7, 0, Step::Drop),
+            (7, 0, Step::State(None)),
+            (7, 3, Step::State(Some(PageState::Dirty))),
+            (7, 1, Step::Set(45, 6, 6, 6, true)),
+            (2, 10, Step::Unsent(7, 1)),
+            (7, 2, Step::OfFile(3)),
+        ],
+    ),
+    // A page is kept whose bytes are all equal but the last, and again one whose bytes are all equal.
+    (
+        "each byte",
+        &[
+            (7, 0, Step::Set(40, 1, 1, 1, true)),
+            (2, 9, Step::Set(41, 2, 2, 2, true)),
+            (7, 3, Step::Set(42, 3, 3, 3, true)),
+            (7, 1, Step::Set(43, 4, 4, 4, false)),
+            (2, 9, Step::Set(44, 5, 5, 5, true)),
+            (2, 9, Step::Set(41, 5, 6, 6, true)),
+            (2, 9, Step::Body(5, 6)),
+            (7, 0, Step::Body(1, 1)),
+            (2, 9, Step::Set(41, 7, 7, 7, true)),
+            (2, 9, Step::Body(7, 7)),
+        ],
+    ),
+];
+
+fn body_of(byte: u8, last: u8) -> Block {
+    let mut body = Block::fill(byte);
+    body.set(1023, last);
+    body
 }
 
 fn has_body(pages: &Pages, birth: u64, index: u32, wanted: &Block) -> bool {
@@ -36,50 +75,37 @@ fn has_body(pages: &Pages, birth: u64, index: u32, wanted: &Block) -> bool {
     }
 }
 
-// All bytes of a page are this one.
-fn is_filled(pages: &Pages, birth: u64, index: u32, byte: u8) -> bool {
-    has_body(pages, birth, index, &Block::fill(byte))
-}
-
-fn expect_kept(rt: &impl Abort, pages: &Pages) {
-    let kept = (pages.block(2, 9), pages.version(2, 9), pages.dirty(1));
-    assert_eq!(rt; kept, (Some(44), Some(5), Some((7, 0))));
-    assert!(rt; is_filled(pages, 2, 9, 5));
-}
-
-// Page 0 of file 7 goes, and page 1 comes in its place.
-fn expect_room(rt: &impl Abort, pages: &mut Pages) {
-    pages.drop_page(7, 0);
-    let states = (pages.state(7, 0), pages.state(7, 3));
-    assert!(rt; pages.set(7, 1, 45, Block::fill(6), 6).is_ok());
-    let next = (pages.next_unsent(2, 10), pages.of_file(7, 2));
-    let wanted = (None, Some(PageState::Dirty));
-    assert_eq!(rt; (states, next), (wanted, (Some((7, 1)), Some(3))));
+// Does the step of a page, and tells whether it came as wanted.
+fn does(pages: &mut Pages, birth: u64, index: u32, step: Step) -> bool {
+    match step {
+        Step::Set(block, byte, last, version, has_room) => {
+            let body = body_of(byte, last).copy();
+            pages.set(birth, index, block, body, version).is_ok() == has_room
+        }
+        Step::Drop => {
+            pages.drop_page(birth, index);
+            true
+        }
+        Step::Body(byte, last) => has_body(pages, birth, index, &body_of(byte, last)),
+        Step::Block(block) => pages.block(birth, index) == Some(block),
+        Step::Version(version) => pages.version(birth, index) == Some(version),
+        Step::State(state) => pages.state(birth, index) == state,
+        Step::Dirty(file, page) => pages.dirty(index) == Some((file, page)),
+        Step::Unsent(file, page) => pages.next_unsent(birth, index) == Some((file, page)),
+        Step::OfFile(page) => pages.of_file(birth, index) == Some(page),
+    }
 }
 
 #[test]
 fn keeps_pages_in_order(rt: HostRuntime) {
-    let mut pages = full(&rt, rt.alloc());
-    expect_kept(&rt, &pages);
-    expect_room(&rt, &mut pages);
+    for (name, steps) in &ROWS {
+        let mut pages = Pages::load(rt.alloc(), 3).expect(&rt, "no pages");
+        for (at, (birth, index, step)) in steps.iter().enumerate() {
+            expect(&rt, name, at, does(&mut pages, *birth, *index, *step));
+        }
+        drop(pages);
+    }
     pages_are_a_map();
     pages_stand_in_order();
     next_page_is_least();
-}
-
-// A page keeps this body.
-fn expect_set(rt: &impl Abort, pages: &mut Pages, body: &Block, version: u64) {
-    assert!(rt; pages.set(2, 9, 41, body.copy(), version).is_ok());
-    assert!(rt; has_body(pages, 2, 9, body), "{version}");
-}
-
-// A page is kept whose bytes are all equal but the last, and again one whose bytes are all equal.
-#[test]
-fn keeps_each_byte(rt: HostRuntime) {
-    let mut pages = full(&rt, rt.alloc());
-    let mut body = Block::fill(5);
-    body.set(1023, 6);
-    expect_set(&rt, &mut pages, &body, 6);
-    assert!(rt; is_filled(&pages, 7, 0, 1));
-    expect_set(&rt, &mut pages, &Block::fill(7), 7);
 }

@@ -4,4 +4,4 @@
 #[cfg(test)]
 mod new_volumes;
 #[cfg(test)]
-mod renames;
+mod rows;
