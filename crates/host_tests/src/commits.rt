@@ -167,10 +167,9 @@ fn plays(rt: &impl Abort, alloc: Global, session: &mut Setting) {
 
 #[test]
 fn plans_are_sent_and_bodies_go_home(rt: HostRuntime) {
-    let mut session = set_up(&rt, rt.alloc());
-    plays(&rt, rt.alloc(), &mut session);
-    drop(session);
     places_are_free_or_in_use();
     last_bodies_wait_to_be_sent_home();
     bodies_wait_until_they_are_sent();
+    let mut session = set_up(&rt, rt.alloc());
+    plays(&rt, rt.alloc(), &mut session);
 }

@@ -98,14 +98,13 @@ fn does(pages: &mut Pages, birth: u64, index: u32, step: Step) -> bool {
 
 #[test]
 fn keeps_pages_in_order(rt: HostRuntime) {
+    pages_are_a_map();
+    pages_stand_in_order();
+    next_page_is_least();
     for (name, steps) in &ROWS {
         let mut pages = Pages::load(rt.alloc(), 3).expect(&rt, "no pages");
         for (at, (birth, index, step)) in steps.iter().enumerate() {
             expect(&rt, name, at, does(&mut pages, *birth, *index, *step));
         }
-        drop(pages);
     }
-    pages_are_a_map();
-    pages_stand_in_order();
-    next_page_is_least();
 }

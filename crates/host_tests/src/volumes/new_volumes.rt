@@ -131,18 +131,13 @@ fn done(
     line: &str,
 ) -> Reply {
     let before = tree_text(rt, alloc, volume);
-    let first = reply_done(alloc, volume, call);
-    if first.is_err() {
-        let after = tree_text(rt, alloc, volume);
-        assert!(rt;
-            after.as_str() == before.as_str(),
-            "refused, and left something: {line}"
-        );
-    }
-    drop(before);
-    match first {
+    match reply_done(alloc, volume, call) {
         Ok(reply) => reply,
-        Err(NoMemory) => reply_done(alloc, volume, call).expect(rt, "not done"),
+        Err(NoMemory) => {
+            let after = tree_text(rt, alloc, volume);
+            expect_text(rt, "refused memory", line, after.as_str(), before.as_str());
+            reply_done(alloc, volume, call).expect(rt, "not done")
+        }
     }
 }
 
@@ -262,7 +257,7 @@ fn expect_bytes(rt: &impl Abort, volume: &PlainVolume, row: &Row) {
 }
 
 fn expect_text(rt: &impl Abort, row: &str, line: &str, came: &str, wanted: &str) {
-    assert_eq!(rt; came, wanted, "{row}: {line}");
+    assert!(rt; came == wanted, "{row}: {line}: {came}");
 }
 
 fn plays(rt: &impl Abort, alloc: Global, row: &Row) {
@@ -274,7 +269,6 @@ fn plays(rt: &impl Abort, alloc: Global, row: &Row) {
     for (ask, line, wanted) in row.steps {
         let text = told(rt, alloc, &mut volume, *ask, line);
         expect_text(rt, row.name, line, text.as_str(), wanted);
-        drop(text);
     }
     expect_bytes(rt, &volume, row);
     drop(volume);
