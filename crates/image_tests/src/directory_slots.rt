@@ -15,7 +15,6 @@ use volume_model::slots_in;
 use volume_ops::Disk;
 
 // What is done with slots. A name is one byte here.
-#[derive(Clone, Copy)]
 enum Step {
     Look,
     Add(u8, u16),
@@ -47,21 +46,19 @@ fn add(slots: &mut Slots, inode: u16, name: Name) -> Option<usize> {
     slots.add(Slot { inode, name }).ok()
 }
 
-// Removes a name, and tells the inode that it led to.
-fn remove(slots: &mut Slots, name: &Name) -> Option<usize> {
-    match slots.remove(name) {
-        Some(slot) if slot.name == *name => Some(slot.inode.into()),
-        _ => None,
-    }
-}
-
-fn done(rt: &impl Abort, slots: &mut Slots, step: Step) -> Option<usize> {
+fn done(rt: &impl Abort, slots: &mut Slots, step: &Step) -> Option<usize> {
     match step {
         Look => None,
-        Add(name, inode) => add(slots, inode, name_of(rt, name)),
-        Remove(name) => remove(slots, &name_of(rt, name)),
+        Add(name, inode) => add(slots, *inode, name_of(rt, *name)),
+        Remove(name) => {
+            let name = name_of(rt, *name);
+            match slots.remove(&name) {
+                Some(slot) if slot.name == name => Some(slot.inode.into()),
+                _ => None,
+            }
+        }
         Lead(at, inode) => {
-            slots.lead(at, inode);
+            slots.lead(*at, *inode);
             None
         }
         Reserve => {
@@ -70,10 +67,10 @@ fn done(rt: &impl Abort, slots: &mut Slots, step: Step) -> Option<usize> {
             None
         }
         Truncate(len) => {
-            slots.truncate(len);
+            slots.truncate(*len);
             None
         }
-        InodeAt(at) => slots.get(at).map(|slot| slot.inode.into()),
+        InodeAt(at) => slots.get(*at).map(|slot| slot.inode.into()),
     }
 }
 
@@ -88,111 +85,139 @@ fn seen(slots: &Slots, names: &[Name; 2]) -> Seen {
 }
 
 // Does the steps, and looks for these names behind each.
-fn expect_steps(rt: &impl Abort, slots: &mut Slots, names: [u8; 2], rows: &[Row]) {
+fn expect_steps(rt: &impl Abort, slots: &mut Slots, what: &str, names: &[u8; 2], rows: &[Row]) {
     let names = [name_of(rt, names[0]), name_of(rt, names[1])];
     for (at, (step, answer, wanted)) in rows.iter().enumerate() {
-        let came = done(rt, slots, *step);
+        let came = done(rt, slots, step);
         assert_eq!(rt;
             (came, seen(slots, &names)),
             (*answer, *wanted),
-            "step {at}"
+            "{what}: step {at}"
         );
     }
 }
 
-// Three slots, of which the second leads to inode 3 under the name `a`.
-fn three(rt: &impl Abort, alloc: Global) -> Slots {
-    let used = Slot {
-        inode: 3,
-        name: name_of(rt, b'a'),
-    };
-    let slots = vec![in alloc; None, Some(used), None].expect(rt, "no slots");
-    Slots::of(slots)
+enum Start {
+    Empty,
+    // Three slots, of which the second leads to inode 3 under the name `a`.
+    Three,
+    // Seventy slots in use, under names of one byte, which lead to inodes of their numbers.
+    Seventy,
 }
 
-const COME_AND_GO: [Row; 8] = [
-    (Look, None, (3, 0, Some(1), None)),
-    (Remove(b'b'), None, (3, 0, Some(1), None)),
-    (Add(b'b', 4), Some(0), (3, 2, Some(1), Some(0))),
-    (Remove(b'a'), Some(3), (3, 1, None, Some(0))),
-    (InodeAt(0), Some(4), (3, 1, None, Some(0))),
-    (InodeAt(1), None, (3, 1, None, Some(0))),
-    (InodeAt(2), None, (3, 1, None, Some(0))),
-    (InodeAt(3), None, (3, 1, None, Some(0))),
-];
-
-#[test]
-fn names_come_and_go(rt: HostRuntime) {
-    let mut slots = three(&rt, rt.alloc());
-    expect_steps(&rt, &mut slots, [b'a', b'b'], &COME_AND_GO);
-}
-
-// Seventy slots in use, under names of one byte, which lead to inodes of their numbers.
-fn seventy(rt: &impl Abort, alloc: Global) -> Slots {
-    let mut slots = Slots::new(alloc);
-    for byte in 1..=70 {
-        let _ = add(&mut slots, byte.into(), name_of(rt, byte));
+fn started(rt: &impl Abort, alloc: Global, start: &Start) -> Slots {
+    match start {
+        Start::Empty => Slots::new(alloc),
+        Start::Three => {
+            let used = Slot {
+                inode: 3,
+                name: name_of(rt, b'a'),
+            };
+            Slots::of(vec![in alloc; None, Some(used), None].expect(rt, "no slots"))
+        }
+        Start::Seventy => {
+            let mut slots = Slots::new(alloc);
+            for byte in 1..=70 {
+                let _ = add(&mut slots, byte.into(), name_of(rt, byte));
+            }
+            slots
+        }
     }
-    slots
 }
 
-// The names 3 and 70 go.
-const LONG_GO: [Row; 4] = [
-    (Look, None, (70, 70, Some(2), Some(69))),
-    (Remove(70), Some(70), (70, 69, Some(2), None)),
-    (Remove(70), None, (70, 69, Some(2), None)),
-    (Remove(3), Some(3), (70, 2, None, None)),
+// The names that are looked for behind each step, and the steps.
+type Part = ([u8; 2], &'static [Row]);
+
+// What the slots are at first, and what is done with them. A long directory gets an index of its names with the first that
+// goes. Of three slots the second is in use; a free one and one behind the last are led nowhere.
+static STORIES: [(&str, Start, &[Part]); 4] = [
+    (
+        "names come and go",
+        Start::Three,
+        &[(
+            [b'a', b'b'],
+            &[
+                (Look, None, (3, 0, Some(1), None)),
+                (Remove(b'b'), None, (3, 0, Some(1), None)),
+                (Add(b'b', 4), Some(0), (3, 2, Some(1), Some(0))),
+                (Remove(b'a'), Some(3), (3, 1, None, Some(0))),
+                (InodeAt(0), Some(4), (3, 1, None, Some(0))),
+                (InodeAt(1), None, (3, 1, None, Some(0))),
+                (InodeAt(2), None, (3, 1, None, Some(0))),
+                (InodeAt(3), None, (3, 1, None, Some(0))),
+            ],
+        )],
+    ),
+    (
+        "names of a long directory come and go",
+        Start::Seventy,
+        &[
+            // The names 3 and 70 go.
+            (
+                [3, 70],
+                &[
+                    (Look, None, (70, 70, Some(2), Some(69))),
+                    (Remove(70), Some(70), (70, 69, Some(2), None)),
+                    (Remove(70), None, (70, 69, Some(2), None)),
+                    (Remove(3), Some(3), (70, 2, None, None)),
+                ],
+            ),
+            // Then the name 71 comes, and the place of another leads elsewhere.
+            (
+                [3, 71],
+                &[
+                    (Lead(41, 9), None, (70, 2, None, None)),
+                    (Add(71, 71), Some(2), (70, 69, None, Some(2))),
+                    (InodeAt(2), Some(71), (70, 69, None, Some(2))),
+                    (InodeAt(41), Some(9), (70, 69, None, Some(2))),
+                ],
+            ),
+        ],
+    ),
+    (
+        "a reserved slot is used or undone",
+        Start::Empty,
+        &[(
+            [b'a', b'a'],
+            &[
+                (Reserve, None, (1, 0, None, None)),
+                (Truncate(0), None, (0, 0, None, None)),
+                (Reserve, None, (1, 0, None, None)),
+                (Add(b'a', 5), Some(0), (1, 1, Some(0), Some(0))),
+            ],
+        )],
+    ),
+    (
+        "a slot is led to another inode",
+        Start::Three,
+        &[(
+            [b'a', b'a'],
+            &[
+                (Lead(0, 7), None, (3, 0, Some(1), Some(1))),
+                (Lead(1, 7), None, (3, 0, Some(1), Some(1))),
+                (Lead(2, 7), None, (3, 0, Some(1), Some(1))),
+                (Lead(3, 7), None, (3, 0, Some(1), Some(1))),
+                (InodeAt(0), None, (3, 0, Some(1), Some(1))),
+                (InodeAt(1), Some(7), (3, 0, Some(1), Some(1))),
+                (InodeAt(2), None, (3, 0, Some(1), Some(1))),
+            ],
+        )],
+    ),
 ];
 
-// Then the name 71 comes, and the place of another leads elsewhere.
-const LONG_COME: [Row; 4] = [
-    (Lead(41, 9), None, (70, 2, None, None)),
-    (Add(71, 71), Some(2), (70, 69, None, Some(2))),
-    (InodeAt(2), Some(71), (70, 69, None, Some(2))),
-    (InodeAt(41), Some(9), (70, 69, None, Some(2))),
-];
-
-// A directory of so many slots gets an index of its names with the first that goes.
 #[test]
-fn names_of_a_long_directory_come_and_go(rt: HostRuntime) {
-    let mut slots = seventy(&rt, rt.alloc());
-    expect_steps(&rt, &mut slots, [3, 70], &LONG_GO);
-    expect_steps(&rt, &mut slots, [3, 71], &LONG_COME);
-}
-
-const RESERVED: [Row; 4] = [
-    (Reserve, None, (1, 0, None, None)),
-    (Truncate(0), None, (0, 0, None, None)),
-    (Reserve, None, (1, 0, None, None)),
-    (Add(b'a', 5), Some(0), (1, 1, Some(0), Some(0))),
-];
-
-#[test]
-fn a_reserved_slot_is_used_or_undone(rt: HostRuntime) {
-    let mut slots = Slots::new(rt.alloc());
-    expect_steps(&rt, &mut slots, [b'a', b'a'], &RESERVED);
+fn slots_answer_steps(rt: HostRuntime) {
+    for (what, start, parts) in &STORIES {
+        let mut slots = started(&rt, rt.alloc(), start);
+        for (names, rows) in *parts {
+            expect_steps(&rt, &mut slots, what, names, rows);
+        }
+    }
     names_are_found();
     room_is_the_least_free_place();
     added_names_are_found();
     removed_names_are_gone();
     led_names_stay();
-}
-
-// Of three slots the second is in use; a free one and one behind the last are led nowhere.
-const LED: [Row; 7] = [
-    (Lead(0, 7), None, (3, 0, Some(1), Some(1))),
-    (Lead(1, 7), None, (3, 0, Some(1), Some(1))),
-    (Lead(2, 7), None, (3, 0, Some(1), Some(1))),
-    (Lead(3, 7), None, (3, 0, Some(1), Some(1))),
-    (InodeAt(0), None, (3, 0, Some(1), Some(1))),
-    (InodeAt(1), Some(7), (3, 0, Some(1), Some(1))),
-    (InodeAt(2), None, (3, 0, Some(1), Some(1))),
-];
-
-#[test]
-fn a_slot_is_led_to_another_inode(rt: HostRuntime) {
-    let mut slots = three(&rt, rt.alloc());
-    expect_steps(&rt, &mut slots, [b'a', b'a'], &LED);
 }
 
 // A disk whose zone 3 has one slot in use, the second.

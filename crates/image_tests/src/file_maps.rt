@@ -49,7 +49,7 @@ fn file(zones: [u16; 9]) -> Inode {
 
 // Two numbers in zone 20, which is indirect, and four behind zone 30, which is doubly indirect. Zone 0
 // has numbers too: it is no zone of a file.
-const WRITTEN: [(usize, usize, u16); 10] = [
+static WRITTEN: [(usize, usize, u16); 10] = [
     (20, 0, 100),
     (20, 511, 101),
     (30, 0, 40),
@@ -73,7 +73,7 @@ fn written(rt: &impl Abort, alloc: Global) -> Rows {
 }
 
 // A block, its zone, and its zone where there are no zones of numbers.
-const MAPPED: [(u32, u16, u16); 13] = [
+static MAPPED: [(u32, u16, u16); 13] = [
     (0, 10, 10),
     (1, 0, 0),
     (6, 16, 16),

@@ -4,7 +4,7 @@ use minix_tables::zones::{ZoneMap, lowest_is_found, zones_are_counted, zones_las
 use std::process::Abort;
 
 // The zones of data are 5 to 9.
-const SMALL: Geometry = Geometry {
+static SMALL: Geometry = Geometry {
     inodes: 32,
     zones: 10,
     imap: 1,
@@ -19,7 +19,6 @@ fn counts(map: &ZoneMap) -> [u32; 2] {
 }
 
 // What is done with a map.
-#[derive(Clone, Copy)]
 enum Step {
     Take,
     Held(u32),
@@ -31,19 +30,8 @@ use Step::{Held, Release, Take};
 // A step, the zone or the number that it is answered, and the counts behind it.
 type Row = (Step, Option<u32>, [u32; 2]);
 
-fn done(map: &mut ZoneMap, step: Step) -> Option<u32> {
-    match step {
-        Take => map.take().ok().map(u32::from),
-        Held(transaction) => Some(map.held_to(transaction)),
-        Release(transaction) => {
-            map.release(transaction);
-            None
-        }
-    }
-}
-
 // The zones 8 and 9 are free, and zone 5 waits for transaction 4 and zone 7 for 9.
-const ROWS: [Row; 10] = [
+static ROWS: [Row; 10] = [
     (Held(3), Some(0), [2, 2]),
     (Held(4), Some(1), [2, 2]),
     (Held(9), Some(2), [2, 2]),
@@ -58,7 +46,14 @@ const ROWS: [Row; 10] = [
 
 fn expect_rows(rt: &impl Abort, map: &mut ZoneMap) {
     for (at, (step, answer, wanted)) in ROWS.iter().enumerate() {
-        let came = done(map, *step);
+        let came = match step {
+            Take => map.take().ok().map(u32::from),
+            Held(transaction) => Some(map.held_to(*transaction)),
+            Release(transaction) => {
+                map.release(*transaction);
+                None
+            }
+        };
         assert_eq!(rt; (came, counts(map)), (*answer, *wanted), "step {at}");
     }
 }

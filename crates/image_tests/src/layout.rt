@@ -41,20 +41,32 @@ fn expect_super(rt: &impl Abort, width: u16, body: &Block)
         width,
     };
     let found = (Geometry::make(100, 1000, width), read_super(body));
-    assert_eq!(rt; found, (Ok(made), Ok(made)));
-    assert!(rt; write_super(&made) == *body);
+    assert_eq!(rt; found, (Ok(made), Ok(made)), "{width}");
+    assert!(rt; write_super(&made) == *body, "{width}");
 }
 
 // Numbers of inodes and zones, and the first zone of data.
-const SIZES: [(u16, u16, Result<u16, TooSmall>); 3] = [
+static SIZES: [(u16, u16, Result<u16, TooSmall>); 3] = [
     (100, 8, Err(TooSmall)),
     (100, 9, Ok(8)),
     (u16::MAX, u16::MAX, Ok(2066)),
 ];
 
 #[test]
-fn makes_and_writes_a_superblock(rt: HostRuntime) {
+fn makes_and_writes_superblocks(rt: HostRuntime) {
     expect_super(&rt, DEFAULT_WIDTH, &block(&SUPER));
+    // With long names the magic number is the one difference.
+    let mut wide = block(&SUPER);
+    wide.set(16, 0x8F);
+    expect_super(&rt, 30, &wide);
+    wide.set(0, 0);
+    let no_inodes = read_super(&wide);
+    drop(wide);
+    assert_eq!(rt;
+        no_inodes,
+        Err(LayoutFault::BadGeometry),
+        "no inodes, long names"
+    );
     for (inodes, zones, first) in &SIZES {
         assert!(rt; *inodes != 0);
         let found = Geometry::make(*inodes, *zones, DEFAULT_WIDTH).map(|g| g.first);
@@ -68,7 +80,7 @@ fn makes_and_writes_a_superblock(rt: HostRuntime) {
 }
 
 // Two bytes of the superblock, and the fault that they make.
-const BAD_SUPERS: [(&str, usize, [u8; 2], LayoutFault); 8] = [
+static BAD_SUPERS: [(&str, usize, [u8; 2], LayoutFault); 8] = [
     ("version 2", 16, [0x68, 0x24], LayoutFault::BadMagic),
     ("zones of two blocks", 10, [1, 0], LayoutFault::BadGeometry),
     ("no inodes", 0, [0, 0], LayoutFault::BadGeometry),
@@ -108,16 +120,6 @@ fn refuses_superblocks(rt: HostRuntime) {
         b.set(*at + 1, bytes[1]);
         assert_eq!(rt; read_super(&b), Err(*fault), "{what}");
     }
-}
-
-// The magic number is the one difference.
-#[test]
-fn makes_and_writes_a_superblock_of_long_names(rt: HostRuntime) {
-    let mut wide = block(&SUPER);
-    wide.set(16, 0x8F);
-    expect_super(&rt, 30, &wide);
-    wide.set(0, 0);
-    assert_eq!(rt; read_super(&wide), Err(LayoutFault::BadGeometry));
 }
 
 #[test]
@@ -183,7 +185,7 @@ const SLOTS: [u8; 80] = [
 ];
 
 // What stands in each: an inode and a name, or none, or a fault.
-const READ: [(u8, Result<Option<(u16, &[u8])>, LayoutFault>); 5] = [
+static READ: [(u8, Result<Option<(u16, &[u8])>, LayoutFault>); 5] = [
     (0, Ok(Some((5, b"ab")))),
     (1, Ok(Some((0x1234, b"\x80\xFFcdefghijklmn")))),
     (2, Ok(None)),
@@ -225,7 +227,7 @@ fn writes_slots(rt: HostRuntime) {
 }
 
 // Slots of 32 bytes with names of 1, 14, 15 and 30 bytes. The longest has no byte of 0 behind it.
-const WIDE_SLOTS: [(u16, &[u8], [u8; 32]); 4] = [
+static WIDE_SLOTS: [(u16, &[u8], [u8; 32]); 4] = [
     (
         5,
         b"a",
@@ -299,7 +301,7 @@ fn reads_and_writes_slots_of_long_names(rt: HostRuntime) {
 }
 
 // Places of slots of long names, and whether one is in use there, or what is wrong.
-const USES: [(u8, Result<bool, LayoutFault>); 4] = [
+static USES: [(u8, Result<bool, LayoutFault>); 4] = [
     (1, Ok(false)),
     (30, Ok(false)),
     (2, Err(LayoutFault::BadSlot)),
@@ -334,7 +336,7 @@ fn tells_slots_of_long_names_that_are_free_or_bad(rt: HostRuntime) {
     );
 }
 
-const NAMES: [(&[u8], bool); 7] = [
+static NAMES: [(&[u8], bool); 7] = [
     (b"", false),
     (b"a", true),
     (b"a\0b", false),

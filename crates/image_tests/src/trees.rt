@@ -65,7 +65,6 @@ other /x\\x20\\x5c\\xff mode 020644
 ";
 
 // What a node of that tree is.
-#[derive(Clone, Copy)]
 enum Kind {
     Other(u16),
     File,
@@ -74,7 +73,7 @@ enum Kind {
 }
 
 // The nodes of the tree of that text, by their births.
-const NODES: [(u64, Kind); 5] = [
+static NODES: [(u64, Kind); 5] = [
     (4, Kind::Other(0o020644)),
     (3, Kind::Directory(&[])),
     (2, Kind::File),
@@ -85,9 +84,9 @@ const NODES: [(u64, Kind); 5] = [
     ),
 ];
 
-fn node(rt: &impl Abort, alloc: Global, kind: Kind) -> Node {
+fn node(rt: &impl Abort, alloc: Global, kind: &Kind) -> Node {
     match kind {
-        Kind::Other(mode) => Node::Other(mode),
+        Kind::Other(mode) => Node::Other(*mode),
         Kind::File => file(rt, alloc),
         Kind::Directory(names) => directory(rt, alloc, names),
     }
@@ -96,7 +95,7 @@ fn node(rt: &impl Abort, alloc: Global, kind: Kind) -> Node {
 fn tree(rt: &impl Abort, alloc: Global) -> Tree {
     let mut tree = Tree::new(alloc);
     for (birth, kind) in &NODES {
-        let placed: Result<_, _> = tree.put(*birth, node(rt, alloc, *kind));
+        let placed: Result<_, _> = tree.put(*birth, node(rt, alloc, kind));
         placed.expect(rt, "no place for a node");
     }
     tree
@@ -127,7 +126,7 @@ fn ends_in(rt: &impl Abort, alloc: Global, text: &[u8], end: &[u8]) -> bool {
 }
 
 // Texts, and the paths that they are.
-const PATHS: [(&[u8], &str); 10] = [
+static PATHS: [(&[u8], &str); 10] = [
     (b"/", "Some(Path { names: [] })"),
     (b"/a", "Some(Path { names: [[97]] })"),
     (b"/a/b", "Some(Path { names: [[97], [98]] })"),

@@ -18,7 +18,7 @@ const ONES: [u8; 1019] = [0xff; 1019];
 
 // A new volume of 32 inodes and 64 zones: a root in zone 5 with its dots, and no other node. In the maps the first bit is
 // set, and those behind the last inode and zone.
-const NEW_VOLUME: [Part; 8] = [
+static NEW_VOLUME: [Part; 8] = [
     Part {
         block: 1,
         at: 0,
@@ -62,7 +62,7 @@ const NEW_VOLUME: [Part; 8] = [
 ];
 
 // A volume of 32 inodes and 8 zones whose root names the device `null`, inode 2. Both maps are zeros.
-const WITH_DEVICE: [Part; 6] = [
+static WITH_DEVICE: [Part; 6] = [
     Part {
         block: 1,
         at: 0,
@@ -102,7 +102,7 @@ struct Row {
     told: Verdict,
 }
 
-const CHANGED: [Row; 10] = [
+static CHANGED: [Row; 10] = [
     Row {
         what: "new",
         changes: &[],
@@ -222,7 +222,7 @@ const CHANGED: [Row; 10] = [
     },
 ];
 
-const WITH_MAPS: [Row; 3] = [
+static WITH_MAPS: [Row; 3] = [
     Row {
         what: "no maps",
         changes: &[],
@@ -292,19 +292,16 @@ fn told_of(alloc: Global, image: &Image) -> Option<Verdict> {
     check_volume(alloc, &volume).ok()
 }
 
-#[test]
-fn tells_the_first_fault(rt: HostRuntime) {
-    for row in &CHANGED {
-        let found = told(rt.alloc(), &NEW_VOLUME, row.changes);
+fn expect_told(rt: &impl Abort, alloc: Global, parts: &[Part], rows: &[Row]) {
+    for row in rows {
+        let found = told(alloc, parts, row.changes);
         assert_eq!(rt; found, Some(row.told), "{}", row.what);
     }
-    one_verdict_is_told();
 }
 
 #[test]
-fn tells_of_a_device(rt: HostRuntime) {
-    for row in &WITH_MAPS {
-        let found = told(rt.alloc(), &WITH_DEVICE, row.changes);
-        assert_eq!(rt; found, Some(row.told), "{}", row.what);
-    }
+fn tells_the_first_fault(rt: HostRuntime) {
+    expect_told(&rt, rt.alloc(), &NEW_VOLUME, &CHANGED);
+    expect_told(&rt, rt.alloc(), &WITH_DEVICE, &WITH_MAPS);
+    one_verdict_is_told();
 }
