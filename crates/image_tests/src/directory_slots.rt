@@ -3,6 +3,7 @@
 
 ghost use Rattle.minix_layout.specs.Widths.{IsWidth};
 
+use crate::same::expect;
 use blk_base::{Block, Image};
 use minix_layout::{DEFAULT_WIDTH, Geometry, Inode, Name, Slot, Zones, write_slot};
 use minix_tables::directories::{
@@ -275,7 +276,7 @@ fn expect_three(rt: &impl Abort, alloc: Global, width: u16, size: u32)
     let slots = slots_in(alloc, &disk, &geometry, &inode).expect(rt, "no slots");
     drop(disk);
     let used = slots_in_use(&slots);
-    assert_eq!(rt; (slots.len(), used), (3, [false, true, false]), "{width}");
+    expect(rt, &width, &(slots.len(), used), &(3, [false, true, false]));
 }
 
 #[test]

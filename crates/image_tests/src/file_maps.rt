@@ -1,6 +1,7 @@
 //! Tests of the map of a file and of blocks of zone numbers.
 ghost use Rattle.std.specs.Prelude.{◌≡◌, [], length, get_or};
 
+use crate::same::expect;
 use byte_fields::u16_at_le;
 use minix_layout::{Inode, Zones};
 use minix_tables::inodes::{ZoneBlocks, encode_zone_block, map_is_by_levels, zone_of};
@@ -99,7 +100,7 @@ fn finds_zones_and_holes(rt: HostRuntime) {
             zone_of(&full, &blocks, *index),
             zone_of(&bare, &blocks, *index),
         ];
-        assert_eq!(rt; found, [*zone, *direct], "block {index}");
+        expect(&rt, index, &found, &[*zone, *direct]);
     }
     map_is_by_levels();
 }
@@ -113,8 +114,10 @@ fn numbers_stand_lowest_byte_first(rt: HostRuntime) {
     let bytes = block.as_slice();
     let front = [bytes[0], bytes[1], bytes[2], bytes[3], bytes[4]];
     let back = [bytes[1021], bytes[1022], bytes[1023]];
-    assert_eq!(rt;
-        (u16_at_le(bytes, 2), front, back),
-        (0x0201, [0, 0, 1, 2, 0], [0, 255, 255])
+    expect(
+        &rt,
+        &"numbers",
+        &(u16_at_le(bytes, 2), front, back),
+        &(0x0201, [0, 0, 1, 2, 0], [0, 255, 255]),
     );
 }

@@ -1,4 +1,5 @@
 //! Tests of the map of zones.
+use crate::same::expect;
 use minix_layout::{DEFAULT_WIDTH, Geometry};
 use minix_tables::zones::{ZoneMap, lowest_is_found, zones_are_counted, zones_last};
 use std::process::Abort;
@@ -54,7 +55,7 @@ fn expect_rows(rt: &impl Abort, map: &mut ZoneMap) {
                 None
             }
         };
-        assert_eq!(rt; (came, counts(map)), (*answer, *wanted), "step {at}");
+        expect(rt, &at, &(came, counts(map)), &(*answer, *wanted));
     }
 }
 
@@ -65,7 +66,7 @@ fn takes_gives_and_releases(rt: HostRuntime) {
     let first = map.take();
     map.give(5, 4);
     map.give(7, 9);
-    assert_eq!(rt; (made, first), ([3, 0], Ok(6)));
+    expect(&rt, &"first", &(made, first), &([3, 0], Ok(6)));
     expect_rows(&rt, &mut map);
     lowest_is_found();
     zones_last();

@@ -4,6 +4,7 @@
 ghost use Rattle.std.specs.Prelude.{◌<◌, ◌≤◌, length};
 ghost use Rattle.minix_layout.specs.Widths.{IsWidth};
 
+use crate::same::expect;
 use blk_base::Block;
 use minix_layout::{
     DEFAULT_WIDTH, Geometry, Inode, LayoutFault, Name, Slot, TooSmall, Zones, bits_are_read,
@@ -41,7 +42,7 @@ fn expect_super(rt: &impl Abort, width: u16, body: &Block)
         width,
     };
     let found = (Geometry::make(100, 1000, width), read_super(body));
-    assert_eq!(rt; found, (Ok(made), Ok(made)), "{width}");
+    expect(rt, &width, &found, &(Ok(made), Ok(made)));
     assert!(rt; write_super(&made) == *body, "{width}");
 }
 
@@ -62,15 +63,16 @@ fn makes_and_writes_superblocks(rt: HostRuntime) {
     wide.set(0, 0);
     let no_inodes = read_super(&wide);
     drop(wide);
-    assert_eq!(rt;
-        no_inodes,
-        Err(LayoutFault::BadGeometry),
-        "no inodes, long names"
+    expect(
+        &rt,
+        &"no inodes, long names",
+        &no_inodes,
+        &Err(LayoutFault::BadGeometry),
     );
     for (inodes, zones, first) in &SIZES {
         assert!(rt; *inodes != 0);
         let found = Geometry::make(*inodes, *zones, DEFAULT_WIDTH).map(|g| g.first);
-        assert_eq!(rt; found, *first, "{inodes} {zones}");
+        expect(&rt, zones, &found, first);
     }
     super_is_read();
     inodes_are_read();
@@ -118,7 +120,7 @@ fn refuses_superblocks(rt: HostRuntime) {
         let mut b = block(&SUPER);
         b.set(*at, bytes[0]);
         b.set(*at + 1, bytes[1]);
-        assert_eq!(rt; read_super(&b), Err(*fault), "{what}");
+        expect(&rt, what, &read_super(&b), &Err(*fault));
     }
 }
 
@@ -132,7 +134,6 @@ fn writes_the_maps(rt: HostRuntime) {
         g.zone_bit(8454),
     ]
     .map(|place| (place.block, place.at));
-    assert_eq!(rt; places, [(2, 1), (3, 0), (4, 1), (5, 0)]);
     let mut b = Block::fill(0);
     write_bit(&mut b, 0, true);
     write_bit(&mut b, 1, true);
@@ -142,7 +143,16 @@ fn writes_the_maps(rt: HostRuntime) {
     let bytes = b.as_slice();
     let written = [bytes[0], bytes[1], bytes[2], bytes[1023]];
     let read = [read_bit(&b, 9), read_bit(&b, 10)];
-    assert_eq!(rt; (written, read), ([1, 2, 0, 0x80], [true, false]));
+    expect(
+        &rt,
+        &"maps",
+        &(places, written, read),
+        &(
+            [(2, 1), (3, 0), (4, 1), (5, 0)],
+            [1, 2, 0, 0x80],
+            [true, false],
+        ),
+    );
 }
 
 const INODE: [u8; 32] = [
@@ -169,10 +179,10 @@ fn reads_and_writes_an_inode(rt: HostRuntime) {
     write_inode(&mut b, 31, &inode());
     let (before, written) = b.as_slice().split_at(992);
     let others = before.iter().all(|byte| *byte == 0xAA);
-    assert_eq!(rt; (others, written), (true, INODE.as_slice()));
+    expect(&rt, &"write", &(others, written), &(true, INODE.as_slice()));
     let found = [read_inode(&b, 31), read_inode(&block(&INODE), 0)];
     let last = read_inode(&b, 30).zones.zone(8);
-    assert_eq!(rt; (found, last), ([inode(), inode()], 0xAAAA));
+    expect(&rt, &"read", &(found, last), &([inode(), inode()], 0xAAAA));
 }
 
 // Two slots in use, a free one, an empty name, and a name with a `/`.
@@ -204,7 +214,7 @@ fn reads_slots(rt: HostRuntime) {
             Ok(None) => Ok(None),
             Err(fault) => Err(*fault),
         };
-        assert_eq!(rt; found, *wanted, "slot {at}");
+        expect(&rt, at, &found, wanted);
     }
 }
 
@@ -220,9 +230,11 @@ fn writes_slots(rt: HostRuntime) {
     }
     write_slot(&mut b, 1, None, DEFAULT_WIDTH);
     let bytes = b.as_slice();
-    assert_eq!(rt;
-        (&bytes[80..86], &bytes[96..112], &bytes[16..32]),
-        (&[5, 0, b'a', b'b', 0, 0][..], &SLOTS[16..32], &[0; 16][..])
+    expect(
+        &rt,
+        &"slots",
+        &(&bytes[80..86], &bytes[96..112], &bytes[16..32]),
+        &(&[5, 0, b'a', b'b', 0, 0][..], &SLOTS[16..32], &[0; 16][..]),
     );
 }
 
@@ -279,7 +291,7 @@ fn expect_written(rt: &impl Abort, b: &Block, at: u8, written: &[u8; 32])
     let (before, rest) = b.as_slice().split_at(32 * usize::from(at));
     let (found, behind) = rest.split_at(32);
     let others = before.iter().chain(behind).all(|byte| *byte == 0xAA);
-    assert_eq!(rt; (others, found), (true, written.as_slice()), "{at}");
+    expect(rt, &at, &(others, found), &(true, written.as_slice()));
 }
 
 // A slot is written as these bytes at its place, and nowhere else, and is read from there.
@@ -312,7 +324,7 @@ fn expect_uses(rt: &impl Abort, b: &Block) {
     for (at, used) in &USES {
         assert!(rt; *at < 32);
         let found = read_slot(b, *at, 30).map(|slot| slot.is_some());
-        assert_eq!(rt; found, *used, "{at}");
+        expect(rt, at, &found, used);
     }
 }
 
@@ -330,25 +342,27 @@ fn tells_slots_of_long_names_that_are_free_or_bad(rt: HostRuntime) {
     assert!(rt; is_slot(&read_slot(&b, 0, 30), 0x7878, &[b'x'; 30]));
     write_slot(&mut b, 3, None, 30);
     let bytes = b.as_slice();
-    assert_eq!(rt;
-        (bytes[95], &bytes[96..128], bytes[128]),
-        (b'x', &[0; 32][..], b'x')
+    expect(
+        &rt,
+        &"slot 3",
+        &(bytes[95], &bytes[96..128], bytes[128]),
+        &(b'x', &[0; 32][..], b'x'),
     );
 }
 
-static NAMES: [(&[u8], bool); 7] = [
-    (b"", false),
-    (b"a", true),
-    (b"a\0b", false),
-    (b"fourteen bytes", true),
-    (b"fifteen bytes .", true),
-    (b"a name of thirty bytes is this", true),
-    (b"a name of thirty-one bytes is .", false),
+static NAMES: [(&str, bool); 7] = [
+    ("", false),
+    ("a", true),
+    ("a\0b", false),
+    ("fourteen bytes", true),
+    ("fifteen bytes .", true),
+    ("a name of thirty bytes is this", true),
+    ("a name of thirty-one bytes is .", false),
 ];
 
 #[test]
 fn takes_names(rt: HostRuntime) {
-    for (bytes, taken) in &NAMES {
-        assert_eq!(rt; Name::of(bytes).is_some(), *taken, "{bytes:?}");
+    for (name, taken) in &NAMES {
+        expect(&rt, name, &Name::of(name.as_bytes()).is_some(), taken);
     }
 }

@@ -20,6 +20,8 @@ mod free_zones;
 mod layout;
 pub mod recoveries;
 #[cfg(test)]
+mod same;
+#[cfg(test)]
 mod trees;
 #[cfg(test)]
 mod walks;

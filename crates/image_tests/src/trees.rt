@@ -1,4 +1,5 @@
 //! The text of a tree, paths, copies of names, and the laws of calls.
+use crate::same::expect;
 use blk_base::Block;
 use minix_layout::{DEFAULT_WIDTH, Name};
 use std::alloc::Global;
@@ -105,7 +106,7 @@ fn tree(rt: &impl Abort, alloc: Global) -> Tree {
 fn shows_a_tree(rt: HostRuntime) {
     let mut out = String::new(rt.alloc());
     put_tree(rt.alloc(), &mut out, tree(&rt, rt.alloc())).expect(&rt, "no text");
-    assert_eq!(rt; out.as_str(), TEXT);
+    expect(&rt, &"a tree", &out.as_str(), &TEXT);
     texts_list_paths();
 }
 
@@ -126,27 +127,27 @@ fn ends_in(rt: &impl Abort, alloc: Global, text: &[u8], end: &[u8]) -> bool {
 }
 
 // Texts, and the paths that they are.
-static PATHS: [(&[u8], &str); 10] = [
-    (b"/", "Some(Path { names: [] })"),
-    (b"/a", "Some(Path { names: [[97]] })"),
-    (b"/a/b", "Some(Path { names: [[97], [98]] })"),
+static PATHS: [(&str, &str); 10] = [
+    ("/", "Some(Path { names: [] })"),
+    ("/a", "Some(Path { names: [[97]] })"),
+    ("/a/b", "Some(Path { names: [[97], [98]] })"),
     (
-        b"/Z_0/..-",
+        "/Z_0/..-",
         "Some(Path { names: [[90, 95, 48], [46, 46, 45]] })",
     ),
-    (b"", "None"),
-    (b"a", "None"),
-    (b"/a/", "None"),
-    (b"//a", "None"),
-    (b"/.", "None"),
-    (b"/a b", "None"),
+    ("", "None"),
+    ("a", "None"),
+    ("/a/", "None"),
+    ("//a", "None"),
+    ("/.", "None"),
+    ("/a b", "None"),
 ];
 
 #[test]
 fn reads_paths(rt: HostRuntime) {
     for (text, path) in &PATHS {
-        let read = shown(&rt, rt.alloc(), text);
-        assert_eq!(rt; read.as_str(), *path, "{text:?}");
+        let read = shown(&rt, rt.alloc(), text.as_bytes());
+        expect(&rt, text, &read.as_str(), path);
     }
     assert!(rt; ends_in(&rt, rt.alloc(), b"/a/bc", b"bc"));
     assert!(rt; is_dot(b".") && is_dot(b"..") && !is_dot(b"..."));
@@ -160,7 +161,12 @@ fn copies_names(rt: HostRuntime) {
     let found = [b"a", b"b", b"c"].map(|bytes| copy.get(&name(&rt, bytes)));
     let blocks = FileBlocks::new(rt.alloc());
     let lengths = [copy.as_map().len(), blocks.as_map().len()];
-    assert_eq!(rt; (found, lengths), ([Some(5), Some(8), None], [2, 0]));
+    expect(
+        &rt,
+        &"names",
+        &(found, lengths),
+        &([Some(5), Some(8), None], [2, 0]),
+    );
 }
 
 #[test]
@@ -192,5 +198,5 @@ fn laws_do_nothing(rt: HostRuntime) {
         inodes: 32,
         capacity: 59,
     };
-    assert_eq!(rt; room.capacity, 59);
+    assert!(rt; room.capacity == 59);
 }

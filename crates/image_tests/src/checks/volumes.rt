@@ -1,4 +1,5 @@
 //! Small volumes and what is told of them. Blocks 2 and 3 are the maps, 4 the table of the inodes, and 5 the root's zone.
+use crate::same::expect;
 use blk_base::{BLOCK_BYTES, Image};
 use minix_layout::read_super;
 use std::alloc::Global;
@@ -295,7 +296,7 @@ fn told_of(alloc: Global, image: &Image) -> Option<Verdict> {
 fn expect_told(rt: &impl Abort, alloc: Global, parts: &[Part], rows: &[Row]) {
     for row in rows {
         let found = told(alloc, parts, row.changes);
-        assert_eq!(rt; found, Some(row.told), "{}", row.what);
+        expect(rt, &row.what, &found, &Some(row.told));
     }
 }
 
