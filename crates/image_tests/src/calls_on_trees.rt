@@ -5,6 +5,7 @@ ghost use Rattle.std.specs.Prelude.{◌≡◌};
 ghost use Rattle.minix_layout.specs.Widths.{IsWidth};
 ghost use Rattle.tree_model.specs.laws.Examples.{new_tree};
 
+use crate::same::expect;
 use minix_layout::DEFAULT_WIDTH;
 use std::alloc::Global;
 use std::process::Abort;
@@ -60,13 +61,14 @@ fn call(rt: &impl Abort, alloc: Global, word: &str, path: &str) -> Call {
 // A call, its path, and what is answered with the zones that it would take.
 type Row = (&'static str, &'static str, &'static str);
 
-// Expects these answers, each on a new tree.
+// Expects these answers, each on a new tree. The width and the word go with both sides, to be told.
 fn expect_first(rt: &impl Abort, alloc: Global, width: u16, rows: &[Row])
     requires { IsWidth width }
 {
     for (word, path, wanted) in rows {
         let text = first(rt, alloc, width, word, path);
-        assert_eq!(rt; text.as_str(), *wanted, "{width}: {word} {path}");
+        let found = (width, *word, text.as_str());
+        expect(rt, path, &found, &(width, *word, *wanted));
     }
 }
 

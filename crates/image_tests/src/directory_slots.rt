@@ -85,16 +85,13 @@ fn seen(slots: &Slots, names: &[Name; 2]) -> Seen {
     )
 }
 
-// Does the steps, and looks for these names behind each.
+// Does the steps, and looks for these names behind each. What the story is goes with both sides, to be told.
 fn expect_steps(rt: &impl Abort, slots: &mut Slots, what: &str, names: &[u8; 2], rows: &[Row]) {
     let names = [name_of(rt, names[0]), name_of(rt, names[1])];
     for (at, (step, answer, wanted)) in rows.iter().enumerate() {
         let came = done(rt, slots, step);
-        assert_eq!(rt;
-            (came, seen(slots, &names)),
-            (*answer, *wanted),
-            "{what}: step {at}"
-        );
+        let found = (what, came, seen(slots, &names));
+        expect(rt, &at, &found, &(what, *answer, *wanted));
     }
 }
 
