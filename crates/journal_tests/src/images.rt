@@ -418,8 +418,8 @@ type Refused = (usize, &'static [(usize, u16)], ImageFault, u32);
 
 // The superblock of the sample stands at 1,024, the inode of the root at 4,096, that of the large file at 4,128, of the
 // directory at 4,160, of the small file at 5,120, and of the device at 6,112.
-static REFUSED: [Refused; 74] = [
-    // The geometry.
+// The geometry.
+static BAD_GEOMETRIES: [Refused; 11] = [
     (40_960, &[(1024, 0)], ImageFault::BadGeometry, 1),
     (40_960, &[(1024 + 2, 41)], ImageFault::BadGeometry, 40),
     (40_960, &[(1024 + 2, 6)], ImageFault::BadGeometry, 1),
@@ -431,7 +431,10 @@ static REFUSED: [Refused; 74] = [
     (40_960, &[(1024 + 10, 1)], ImageFault::BadGeometry, 1),
     (40_960, &[(1024 + 16, 0x2468)], ImageFault::BadMagic, 1),
     (40_960, &[(1024 + 16, 0)], ImageFault::BadMagic, 1),
-    // Inodes. With the magic number of long names, a directory of 48 bytes has one and a half slots.
+];
+
+// Inodes. With the magic number of long names, a directory of 48 bytes has one and a half slots.
+static BAD_INODES: [Refused; 10] = [
     (40_960, &[(1024 + 16, 0x138F)], ImageFault::BadInode, 4),
     (40_960, &[(4096, 0o100644)], ImageFault::BadInode, 4),
     (40_960, &[(4096, 0o020666)], ImageFault::BadInode, 4),
@@ -442,7 +445,10 @@ static REFUSED: [Refused; 74] = [
     (40_960, &[(5120 + 6, 0x1009)], ImageFault::BadInode, 5),
     (40_960, &[(6112, 0o100644)], ImageFault::BadInode, 5),
     (40_960, &[(6112, 0o040755)], ImageFault::BadInode, 5),
-    // Zones.
+];
+
+// Zones.
+static BAD_ZONES: [Refused; 20] = [
     (40_960, &[(4096 + 14, 5)], ImageFault::BadZone, 4),
     (40_960, &[(4096 + 14, 40)], ImageFault::BadZone, 4),
     (40_960, &[(4096 + 16, 6)], ImageFault::BadZone, 4),
@@ -463,7 +469,10 @@ static REFUSED: [Refused; 74] = [
     (40_960, &[(5120 + 14, 19)], ImageFault::BadZone, 5),
     (40_960, &[(5120 + 26, 40)], ImageFault::BadZone, 5),
     (40_960, &[(5120 + 30, 40)], ImageFault::BadZone, 5),
-    // Slots.
+];
+
+// Slots.
+static BAD_SLOTS: [Refused; 15] = [
     (40_960, &[(6 * 1024 + 2, 0x7878)], ImageFault::BadSlot, 6),
     (40_960, &[(6 * 1024 + 32, 65)], ImageFault::BadSlot, 6),
     (
@@ -509,8 +518,11 @@ static REFUSED: [Refused; 74] = [
         ImageFault::BadSlot,
         19,
     ),
-    // A directory's own zones, its slots, and then what they name; a file's zones in order; and last what an early
-    // directory names, before the inode that a later name of the root leads to.
+];
+
+// A directory's own zones, its slots, and then what they name; a file's zones in order; and last what an early
+// directory names, before the inode that a later name of the root leads to.
+static FIRST_FAULTS: [Refused; 6] = [
     (
         40_960,
         &[(4096 + 16, 6), (6 * 1024 + 32, 65)],
@@ -547,7 +559,10 @@ static REFUSED: [Refused; 74] = [
         ImageFault::BadZone,
         5,
     ),
-    // Images that are cut off.
+];
+
+// Images that are cut off.
+static CUT_OFF: [Refused; 7] = [
     (0, &[], ImageFault::BadGeometry, 0),
     (1023, &[], ImageFault::BadGeometry, 0),
     (1024, &[], ImageFault::BadGeometry, 1),
@@ -555,7 +570,10 @@ static REFUSED: [Refused; 74] = [
     (2048, &[], ImageFault::BadGeometry, 2),
     (20_480, &[], ImageFault::BadGeometry, 20),
     (40_959, &[], ImageFault::BadGeometry, 39),
-    // The type of a journal's first block behind the sample, and its incompatible features.
+];
+
+// The type of a journal's first block behind the sample, and its incompatible features.
+static BAD_JOURNALS: [Refused; 5] = [
     (
         41_984,
         &[
@@ -631,7 +649,13 @@ fn expect_refused(rt: &impl Abort, alloc: Global, blocks: &[Block], rows: &[Refu
 #[test]
 fn tells_the_fault_of_an_image(rt: HostRuntime) {
     let blocks = sample(&rt, rt.alloc());
-    expect_refused(&rt, rt.alloc(), &blocks, &REFUSED);
+    expect_refused(&rt, rt.alloc(), &blocks, &BAD_GEOMETRIES);
+    expect_refused(&rt, rt.alloc(), &blocks, &BAD_INODES);
+    expect_refused(&rt, rt.alloc(), &blocks, &BAD_ZONES);
+    expect_refused(&rt, rt.alloc(), &blocks, &BAD_SLOTS);
+    expect_refused(&rt, rt.alloc(), &blocks, &FIRST_FAULTS);
+    expect_refused(&rt, rt.alloc(), &blocks, &CUT_OFF);
+    expect_refused(&rt, rt.alloc(), &blocks, &BAD_JOURNALS);
     drop(blocks);
     let wide = wide_sample(&rt, rt.alloc());
     expect_refused(&rt, rt.alloc(), &wide, &WIDE_REFUSED);

@@ -51,7 +51,15 @@ pub(crate) struct Log {
     pub(crate) runs: &'static [(Way, Came)],
 }
 
-pub(crate) static LOGS: [Log; 23] = [
+/// The logs, in tables of a few: what a table costs to prove grows faster than it does, and is paid in each function that names
+/// it. So the tests borrow them.
+pub(crate) fn logs() -> [&'static [Log]; 7] {
+    [
+        &MISSING, &COUNTING, &FULL, &EMPTY, &REVOKING, &PAST_ENDS, &FAULTY,
+    ]
+}
+
+pub(crate) static MISSING: [Log; 1] = [
     // A commit block of sequence 4, a descriptor of sequence 5 with one tag, and zeros.
     Log {
         name: "missing sequence",
@@ -65,6 +73,9 @@ pub(crate) static LOGS: [Log; 23] = [
             (Way::Cut, Came::Begun(1, 6)),
         ],
     },
+];
+
+static COUNTING: [Log; 4] = [
     // A body of block 9, which is not zero before, is revoked later, and behind it are bodies of blocks 3 and 4.
     Log {
         name: "revoked later",
@@ -135,6 +146,9 @@ pub(crate) static LOGS: [Log; 23] = [
         steps: Some(5),
         runs: &[(Way::Whole, Came::Ended(2, 2, &[(9, b"", 7)]))],
     },
+];
+
+static FULL: [Log; 1] = [
     // Two transactions with bodies for blocks 9 and 10, and a later one for block 10. The commands are two home writes, the
     // superblock and a flush; the log has seven blocks, and one more ends it.
     Log {
@@ -173,15 +187,19 @@ pub(crate) static LOGS: [Log; 23] = [
             (Way::BadRead(10), Came::Ended(2, 7, &[])),
         ],
     },
-    Log {
-        name: "empty",
-        places: (128, 1, 0),
-        features: &[1],
-        parts: &[],
-        byte: 0,
-        steps: Some(0),
-        runs: &[],
-    },
+];
+
+pub(crate) static EMPTY: [Log; 1] = [Log {
+    name: "empty",
+    places: (128, 1, 0),
+    features: &[1],
+    parts: &[],
+    byte: 0,
+    steps: Some(0),
+    runs: &[],
+}];
+
+static REVOKING: [Log; 7] = [
     // The superblock and the flush are the only commands, since a later revoke cancels the one body.
     Log {
         name: "cancelled",
@@ -287,6 +305,9 @@ pub(crate) static LOGS: [Log; 23] = [
         steps: None,
         runs: &[(Way::Whole, Came::Ended(1, 6, &[(9, b"", 0)]))],
     },
+];
+
+static PAST_ENDS: [Log; 4] = [
     // Two tags with a uuid each, for blocks 9 and 10, in sequence 4.
     Log {
         name: "tags with a uuid each",
@@ -354,6 +375,9 @@ pub(crate) static LOGS: [Log; 23] = [
         steps: None,
         runs: &[(Way::Whole, Came::Faulty(JournalFault::BadCount, 65))],
     },
+];
+
+static FAULTY: [Log; 5] = [
     Log {
         name: "body of block 0",
         places: (128, 4, 1),

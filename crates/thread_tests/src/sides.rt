@@ -134,6 +134,22 @@ fn done<N: PartNames, H: Wait>(
     did == Ok(true)
 }
 
+// Does the steps. The first with another answer than the one beside it ends the process.
+fn expect_steps<N: PartNames, H: Wait + Abort>(
+    rt: &H,
+    submit: &mut SubmitEnd<'_, N, H>,
+    sched: &mut SchedSide<'_, Sched, N, H>,
+    dev: &mut DeviceSide<'_, EpochDevice, N, H>,
+    completion: &mut CompletionEnd<'_, N, H>,
+) {
+    for (at, (step, wanted)) in STEPS.iter().enumerate() {
+        let came = done(submit, sched, dev, completion, *step);
+        assert!(rt; came == *wanted, "step {at}");
+    }
+    assert!(rt; sched.events() == OF_SCHEDULER.as_slice());
+    assert!(rt; dev.events() == OF_DEVICE.as_slice());
+}
+
 fn plays<'a, N: PartNames, H: Wait + Sync + Abort>(
     rt: &'a H,
     alloc: Global,
@@ -162,12 +178,7 @@ fn plays<'a, N: PartNames, H: Wait + Sync + Abort>(
     } = ends::<N, H>(rt, queues, passes);
     let mut sched = SchedSide::open(alloc, sched, sched_ids, request, send);
     let mut dev = DeviceSide::open(alloc, dev, device_ids, command, post);
-    for (at, (step, wanted)) in STEPS.iter().enumerate() {
-        let came = done(&mut submit, &mut sched, &mut dev, &mut completion, *step);
-        assert!(rt; came == *wanted, "step {at}");
-    }
-    assert!(rt; sched.events() == OF_SCHEDULER.as_slice());
-    assert!(rt; dev.events() == OF_DEVICE.as_slice());
+    expect_steps(rt, &mut submit, &mut sched, &mut dev, &mut completion);
     let (_, _, request, send) = sched.into_parts();
     let (_, _, command, post) = dev.into_parts();
     close(Ends {

@@ -6,7 +6,7 @@ ghost use Rattle.minix_layout.specs.Geometry.{IsSound};
 ghost use Rattle.tree_model.specs.Calls.{leaves_tree};
 
 use crate::same::expect;
-use crate::volumes::rows::ROWS;
+use crate::volumes::rows::{MOVED, NEW, REPLACED, SLOTS};
 use blk_base::NoMemory;
 use line_grammar::calls::{read_call, read_call_word};
 use minix_layout::{DEFAULT_WIDTH, Geometry};
@@ -274,9 +274,16 @@ fn plays(rt: &impl Abort, alloc: Global, row: &Row) {
     drop(volume);
 }
 
+fn plays_all(rt: &impl Abort, alloc: Global, rows: &[Row]) {
+    for row in rows {
+        plays(rt, alloc, row);
+    }
+}
+
 #[test]
 fn volumes_tell_what_calls_leave(rt: HostRuntime) {
-    for row in &ROWS {
-        plays(&rt, rt.alloc(), row);
-    }
+    plays_all(&rt, rt.alloc(), &NEW);
+    plays_all(&rt, rt.alloc(), &SLOTS);
+    plays_all(&rt, rt.alloc(), &MOVED);
+    plays_all(&rt, rt.alloc(), &REPLACED);
 }

@@ -4,7 +4,8 @@ use crate::volumes::new_volumes::Ask::{
 };
 use crate::volumes::new_volumes::Row;
 
-pub static ROWS: [Row; 16] = [
+/// Volumes that are new.
+pub static NEW: [Row; 3] = [
     Row {
         name: "answers of a new volume",
         is_wide: false,
@@ -70,6 +71,10 @@ pub static ROWS: [Row; 16] = [
         bytes: &[(5, 2, b"."), (64, 2, b"\0")],
         is_whole: false,
     },
+];
+
+/// Nodes and their slots.
+pub static SLOTS: [Row; 4] = [
     // A directory and a file in it, which has two blocks. All bytes of blocks 2 to 6: they are the maps of inodes and of
     // zones, in which this volume did not mark the root, three inodes, the root's slots and those of `/a`.
     Row {
@@ -159,6 +164,10 @@ pub static ROWS: [Row; 16] = [
         bytes: &[(6, 0, b"\x02\0more\0")],
         is_whole: false,
     },
+];
+
+/// Nodes that move.
+pub static MOVED: [Row; 4] = [
     Row {
         name: "a name within a directory",
         is_wide: false,
@@ -225,6 +234,10 @@ pub static ROWS: [Row; 16] = [
         ],
         is_whole: false,
     },
+];
+
+/// Names of files that come together.
+pub static REPLACED: [Row; 5] = [
     // Of 59 zones of data the root has one, `/f` one and `/g` two, which wait for their transaction.
     Row {
         name: "a file in place of one with one link",
