@@ -104,6 +104,16 @@ def turns(name, count, rounds):
     return name, "\n".join(text + ["events", "round %d" % rounds]) + "\n"
 
 
+def waiting(name, files, steps):
+    """A volume script in which a call is asked so many times while the transaction is being closed: a `create` in a directory of so
+    many files, which waits until the pages of another file are sent."""
+    text = ["volume inodes %d zones 16384 journal 4096" % (2 * files), "limit 200000", "thread 1", "mkdir /d"]
+    text += ["create /d/%d" % file for file in range(files)]
+    text += ["create /a", "write /a 0 31744 11", "fbarrier /d", "thread 2", "create /d/x"]
+    events = ["call 1 x %d" % (files + 8), "commit x 2", "call 2 x %d" % steps]
+    return name, "\n".join(text + ["events", *events]) + "\n"
+
+
 def one_file(name):
     """A volume script that makes one file on the largest volume, and syncs it."""
     text = ["volume inodes 21845 zones 65535 journal 4096", "thread 1", "create /file", "fsync /file"]
@@ -222,6 +232,7 @@ def cases():
     yield volume("volume-large-writes", 91, 32000, 20000)
     yield letters("volume-letters", 8, 200, 8000)
     yield wraps("volume-hundred-wraps", 32, 100, 45000)
+    yield waiting("volume-waiting", 4000, 1000000)
     for name, count in (("quarter", 123), ("half", 245), ("whole", 489)):
         yield turns("volume-turns-" + name, count, 80 * count)
     yield one_file("volume-one-file")
