@@ -157,7 +157,45 @@ dir /a
 dir /b
 ";
 
-const ROWS: [(&str, &str); 5] = [
+// A call that waited while a transaction was closed is asked anew once the volume has changed: its directory is gone then. The
+// requests are two pages, superblock, descriptor, five bodies and the commit block.
+const ASKED_ANEW: &str = "\
+volume inodes 32 zones 64 journal 128
+thread 1
+mkdir /d
+create /f
+write /f 0 2048 61
+fbarrier /d
+rmdir /d
+thread 2
+create /d/x
+events
+call 1 x 5
+commit
+call 2
+commit x 20
+call 1 x 2
+call 2
+";
+
+const ASKED_ANEW_PRINTS: &str = "\
+steps 0
+requests 10
+1 mkdir /d: ok
+1 create /f: ok
+1 write /f 0 2048 61: ok
+1 fbarrier /d: ok
+1 rmdir /d: ok
+2 create /d/x: not found
+thread 1: 5 of 5
+thread 2: 1 of 1
+closed 1
+found 0
+dir /
+";
+
+const ROWS: [(&str, &str); 6] = [
+    (ASKED_ANEW, ASKED_ANEW_PRINTS),
     (SUBMITTED, SUBMITTED_PRINTS),
     (PERSISTED, PERSISTED_PRINTS),
     (ALL_BUT_ONE, ALL_BUT_ONE_PRINTS),
