@@ -1,8 +1,9 @@
 -- What is known of the volume stays so.
-use Rattle.std.proofs.Common.{◌≡◌, ℕ, Bool, true, false, List, [], map, Option, Some, None, if◌then◌else◌, unwrap_or, slice_get, refl, sym, ap, subst, ◌∙◌, ◌⊎◌, inl, inr}
-use Rattle.std.proofs.lemmas.Bool.{false≢true}
+use Rattle.std.proofs.Common.{◌≡◌, ℕ, ◌==◌, ◌&&◌, Bool, true, false, List, [], ◌∷◌, map, Option, Some, None, if◌then◌else◌, unwrap_or, slice_get, refl, sym, ap, subst, ◌∙◌, ◌⊎◌, inl, inr}
+use Rattle.std.proofs.lemmas.Bool.{false≢true, and_parts, eqb-true}
+use Rattle.std.proofs.lemmas.Option.{none-some}
 use Rattle.blk_base.specs.Members.{In}
-use Rattle.blk_base.specs.laws.Members.{slice_get-In, slice_get-map_some}
+use Rattle.blk_base.specs.laws.Members.{slice_get-map_some}
 use Rattle.tree_model.specs.declared.call.Call.{Call}
 use Rattle.tree_model.specs.declared.call.Call.TheVariants as calls
 use Rattle.flush_actor.specs.Kinds.{is_begun, is_reading}
@@ -15,20 +16,29 @@ use Rattle.host_machine.specs.State.{Answered}
 use Rattle.host_core.specs.at_once.Steps.{CallParts, steps_plainly}
 use Rattle.host_core.specs.Entries.{call_in}
 use Rattle.host_core.specs.code.Fields.{program_of}
-use Rattle.host_core.specs.code.Known.{TakesZones, AreToCome, IsKnown, IsKnownOf, StaysKnown}
+use Rattle.host_core.specs.code.Known.{zones_known, TakesZones, AreToCome, IsKnown, IsKnownOf, StaysKnown}
 use Rattle.host_core.specs.code.Progress.{Went, Over, Opened, begins_at, starts, went_plainly}
 use Rattle.host_core.specs.declared.known.Known.{Known}
 use Rattle.host_core.specs.declared.known.KnownCall.{KnownCall}
 use Rattle.host_core.specs.declared.thread.Thread.{Thread}
 use Rattle.host_core.proofs.AtOnceLemmas.Finds.{reading_keeps}
 
--- a call that is found in a list
-pub known_there : (xs : List KnownCall) (i thread place : ℕ) (x : KnownCall) → slice_get xs i ≡ Some x → x.thread ≡ thread → x.place ≡ place → In (record { thread = thread; place = place; zones = x.zones }) xs
-known_there xs i thread place x there same own =
-    subst (λ y. In y xs) (ap (λ t. at t x.place) same ∙ ap (λ n. at thread n) own) (slice_get-In xs i x there)
+-- what is found for a call is noted of it
+pub noted_there : (thread place zones : ℕ) (xs : List KnownCall) → zones_known thread place xs ≡ Some zones → In (record { thread = thread; place = place; zones = zones }) xs
+noted_there thread place zones [] e = absurd (none-some zones e)
+noted_there thread place zones (x ∷ xs) e = by (noted_there thread place zones xs) (x.thread == thread && x.place == place) refl
   where
-    at : ℕ → ℕ → KnownCall
-    at t n = record { thread = t; place = n; zones = x.zones }
+    found : Bool → Option ℕ
+    found b = if b then Some x.zones else zones_known thread place xs
+
+    at : ℕ → ℕ → ℕ → KnownCall
+    at t n z = record { thread = t; place = n; zones = z }
+
+    by : (zones_known thread place xs ≡ Some zones → In (at thread place zones) xs) → (b : Bool) → (x.thread == thread && x.place == place) ≡ b → In (at thread place zones) (x ∷ xs)
+    by rest false other = inr (rest (sym (ap found other) ∙ e))
+    by rest true same =
+        let parts = and_parts (x.thread == thread) (x.place == place) same in
+        inl (ap (λ t. at t x.place x.zones) (eqb-true x.thread thread parts.0) ∙ ap (λ n. at thread n x.zones) (eqb-true x.place place parts.1) ∙ ap (at thread place) (ap (λ (o : Option ℕ). unwrap_or o 0) (sym (ap found same) ∙ e)))
 
 pub nothing_known : (programs : List (List Call)) (v : VolumeNow) (k : Known) → k.calls.items ≡ [] → k.to_come ≡ None → IsKnown programs v k
 nothing_known programs v k calls to_come = record {
@@ -44,7 +54,7 @@ call_is ts at th c there call =
 
 pub known_of : (programs : List (List Call)) (thread place : ℕ) (c : Call) (v : VolumeNow) (k : Known) → call_in programs thread place ≡ c → IsKnown programs v k → IsKnownOf thread place c v k
 known_of programs thread place c v k e h = record {
-  call = λ zones i. subst (λ x. TakesZones v x zones) e (h.calls (record { thread = thread; place = place; zones = zones }) i);
+  call = λ zones found. subst (λ x. TakesZones v x zones) e (h.calls (record { thread = thread; place = place; zones = zones }) (noted_there thread place zones k.calls.items found));
   to_come = h.to_come;
 }
 

@@ -1,6 +1,7 @@
 //! What is known of the volume, until it changes.
-ghost use Rattle.std.specs.Prelude.{◌≡◌, ◌∷◌, [], IfOk, IfSome, None, ◌⊎◌};
+ghost use Rattle.std.specs.Prelude.{◌≡◌, ◌<◌, ◌++◌, ◌∷◌, [], length, IfOk, None, ◌⊎◌, vec_capacity};
 ghost use Rattle.blk_base.specs.Members.{In};
+ghost use Rattle.host_core.specs.code.Known.{zones_known};
 ghost use Rattle.host_core.specs.declared.known.KnownCall.{KnownCall};
 
 use blk_base::NoMemory;
@@ -53,7 +54,7 @@ impl Known {
 
     // How many zones the call at this place takes, if it is known.
     pub fn zones_for(&self, thread: u32, place: u32) -> Option<u32>
-        ensures { IfSome result (λ n. In (record { thread = thread; place = place; zones = n }) self.now.calls.items) }
+        ensures { result ≡ zones_known thread place self.now.calls.items }
     {
         for known in &self.calls {
             if known.thread == thread && known.place == place {
@@ -66,6 +67,7 @@ impl Known {
     // Notes a call, where there is room.
     pub fn note(&mut self, call: KnownCall)
         ensures calls { (k : KnownCall) → In k self.new.calls.items → In k self.old.calls.items ⊎ (call ≡ k) }
+        ensures noted { length self.old.calls.items < vec_capacity self.old.calls → self.new.calls.items ≡ self.old.calls.items ++ (call ∷ []) }
         ensures to_come { self.new.to_come ≡ self.old.to_come }
     {
         if self.calls.len() < self.calls.capacity() {

@@ -1,5 +1,5 @@
 -- What is known of the volume, until it changes.
-use Rattle.std.specs.Prelude.{◌≡◌, ℕ, true, List, Option, None, IfSome}
+use Rattle.std.specs.Prelude.{◌≡◌, ℕ, ◌==◌, ◌&&◌, true, List, [], ◌∷◌, Option, None, Some, IfSome, if◌then◌else◌}
 use Rattle.blk_base.specs.Members.{In}
 use Rattle.tree_model.specs.declared.call.Call.{Call}
 use Rattle.volume_steps.specs.Now.{VolumeNow}
@@ -20,6 +20,11 @@ pub record TakesZones (v : VolumeNow) (c : Call) (zones : ℕ) : Type 0 where
 abbrev pub AreToCome : VolumeNow → Option ZonesToCome → Type 0
 AreToCome v known = IfSome known (λ z. z.zones ≡ waits_below v z.before)
 
+-- how many zones the call at this place of this thread takes, by the first that is noted for it
+abbrev pub zones_known : ℕ → ℕ → List KnownCall → Option ℕ
+zones_known thread place [] = None
+zones_known thread place (k ∷ ks) = if k.thread == thread && k.place == place then Some k.zones else zones_known thread place ks
+
 -- All that is known is so, for the callers' programs.
 pub record IsKnown (programs : List (List Call)) (v : VolumeNow) (k : Known) : Type 0 where
   pub calls : (x : KnownCall) → In x k.calls.items → TakesZones v (call_in programs x.thread x.place) x.zones
@@ -27,7 +32,7 @@ pub record IsKnown (programs : List (List Call)) (v : VolumeNow) (k : Known) : T
 
 -- So is what is known of this call, at its place in the program of its thread.
 pub record IsKnownOf (thread place : ℕ) (c : Call) (v : VolumeNow) (k : Known) : Type 0 where
-  pub call : (zones : ℕ) → In (record { thread = thread; place = place; zones = zones }) k.calls.items → TakesZones v c zones
+  pub call : (zones : ℕ) → zones_known thread place k.calls.items ≡ Some zones → TakesZones v c zones
   pub to_come : AreToCome v k.to_come
 
 -- What is known stays so where the volume and that become these.

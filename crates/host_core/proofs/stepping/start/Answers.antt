@@ -11,18 +11,18 @@ use Rattle.host_core.proofs.stepping.start.Goals.{in-Waiting, in_default-matches
 use Rattle.host_core.proofs.stepping.start.Goals as goal
 
 pub perform-requires-clause-refused : goal.perform-requires-clause-refused
-perform-requires-clause-refused c = (c.requires.known.call c.in-Some.zones c.in-Some.ensures).refused
+perform-requires-clause-refused c = (c.requires.known.call c.in-Some.zones (sym c.in-Some.ensures)).refused
 
 pub perform-requires-clause-changes : goal.perform-requires-clause-changes
-perform-requires-clause-changes c = sym (c.requires.known.call c.in-Some.zones c.in-Some.ensures).changes
+perform-requires-clause-changes c = sym (c.requires.known.call c.in-Some.zones (sym c.in-Some.ensures)).changes
 
 pub perform-requires-clause-zones : goal.perform-requires-clause-zones
-perform-requires-clause-zones c = (c.requires.known.call c.in-Some.zones c.in-Some.ensures).takes
+perform-requires-clause-zones c = (c.requires.known.call c.in-Some.zones (sym c.in-Some.ensures)).takes
 
 pub returns-in-Some-clause-step : goal.returns-in-Some-clause-step
 returns-in-Some-clause-step c =
     let old = c.args.parts.now in
-    let takes = c.requires.known.call c.in-Some.zones c.in-Some.ensures in
+    let takes = c.requires.known.call c.in-Some.zones (sym c.in-Some.ensures) in
     let same = started (writers old.journal.made_with) old.volume.geometry.zmap (quota old.journal.made_with) (parts_now old) c.args.number c.args.call.now takes.refused (changing_is_plain old.volume c.args.call.now takes.changes) in
     IfOk-weaker c.perform.result _ _ (λ f e. e ∙ sym same) c.perform.ensures.step
 
