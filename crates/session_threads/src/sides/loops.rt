@@ -31,26 +31,73 @@ fn passes<G: Gate>(gate: &G, who: u32, turn: &mut u64) -> bool {
     passes
 }
 
-// What a step did. None where memory was refused, which all loops are told.
-fn told<T: Drop>(flags: &Flags, step: Result<T, NoMemory>) -> Option<T> {
-    match step {
-        Ok(done) => Some(done),
-        Err(NoMemory) => {
-            flags.raise_refused();
-            None
+// What a loop does behind a step.
+#[derive(Clone, Copy)]
+enum Next {
+    Go,
+    Yield,
+    End,
+}
+
+// Whether the loop goes on. It yields first, if it is to.
+fn goes_on(next: Next) -> bool {
+    match next {
+        Next::Go => true,
+        Next::Yield => {
+            thread::yield_now();
+            true
         }
+        Next::End => false,
     }
 }
 
-// Whether a turn did something. None where memory was refused, as above.
-fn turned(flags: &Flags, step: Result<Turn, NoMemory>) -> Option<bool> {
+// Memory was refused, which all loops are told.
+fn refused(flags: &Flags) -> Next {
+    flags.raise_refused();
+    Next::End
+}
+
+// Behind a step that did something or not. Where it did nothing, the loop ends if it may.
+fn behind(flags: &Flags, step: Result<bool, NoMemory>, may_end: bool) -> Next {
     match step {
-        Ok(Turn::Did) => Some(true),
-        Ok(Turn::Idle | Turn::QueueFull | Turn::SessionFull) => Some(false),
-        Ok(Turn::NoMemory) | Err(NoMemory) => {
-            flags.raise_refused();
-            None
+        Ok(true) => Next::Go,
+        Ok(false) if may_end => Next::End,
+        Ok(false) => Next::Yield,
+        Err(NoMemory) => refused(flags),
+    }
+}
+
+// Behind the step of a thread.
+fn behind_call(flags: &Flags, step: Result<Step, NoMemory>) -> Next {
+    let next = match &step {
+        Ok(Step::Ended) => Next::End,
+        Ok(Step::Waiting(_)) => Next::Yield,
+        Ok(Step::NoMemory) | Err(NoMemory) => refused(flags),
+        Ok(_) => Next::Go,
+    };
+    drop(step);
+    next
+}
+
+// Behind the step of the commit actor, before which every program had ended or not.
+fn behind_commit(flags: &Flags, step: Result<Turn, NoMemory>, done: bool) -> Next {
+    match step {
+        Ok(Turn::Did) => Next::Go,
+        Ok(Turn::Idle | Turn::SessionFull) if done => {
+            flags.raise_submitted();
+            Next::End
         }
+        Ok(Turn::NoMemory) | Err(NoMemory) => refused(flags),
+        Ok(Turn::Idle | Turn::QueueFull | Turn::SessionFull) => Next::Yield,
+    }
+}
+
+// Behind a step of the flush actor or of write-back.
+fn behind_turn(flags: &Flags, step: Result<Turn, NoMemory>) -> Next {
+    match step {
+        Ok(Turn::Did) => Next::Go,
+        Ok(Turn::Idle | Turn::QueueFull | Turn::SessionFull) => Next::Yield,
+        Ok(Turn::NoMemory) | Err(NoMemory) => refused(flags),
     }
 }
 
@@ -74,14 +121,8 @@ pub fn caller_loop<N: SessionNames, H: Wait, G: Gate>(
             continue;
         }
         let step = side.lock(rt).call(alloc, thread);
-        match told(flags, step) {
-            None | Some(Step::Ended) => return,
-            Some(Step::NoMemory) => {
-                flags.raise_refused();
-                return;
-            }
-            Some(Step::Waiting(_)) => thread::yield_now(),
-            Some(_) => {}
+        if !goes_on(behind_call(flags, step)) {
+            return;
         }
     }
 }
@@ -104,20 +145,33 @@ pub fn commit_loop<N: SessionNames, H: Wait, G: Gate>(
         }
         let done = side.lock(rt).is_done();
         let step = side.lock(rt).commit(alloc);
-        match told(flags, step) {
-            None => return,
-            Some(Turn::Did) => {}
-            Some(Turn::Idle | Turn::SessionFull) if done => {
-                flags.raise_submitted();
-                return;
-            }
-            Some(Turn::NoMemory) => {
-                flags.raise_refused();
-                return;
-            }
-            Some(_) => thread::yield_now(),
+        if !goes_on(behind_commit(flags, step, done)) {
+            return;
         }
     }
+}
+
+// A step of the flush actor, or write-back where that did nothing. The loop ends where all was submitted before, and is
+// answered.
+fn flush_or_write_back<N: SessionNames, H: Wait>(
+    rt: &H,
+    side: &Mutex<HostSide<'_, N, H>>,
+    flags: &Flags,
+    picks: &mut Pcg32,
+) -> Next {
+    let submitted = flags.is_submitted();
+    let step = side.lock(rt).flush_or_take();
+    match behind_turn(flags, step) {
+        Next::Yield => {}
+        next => return next,
+    }
+    if submitted && side.lock(rt).is_answered() {
+        flags.raise_flushed();
+        return Next::End;
+    }
+    let word = picks.next_word();
+    let step = side.lock(rt).writeback_word(word);
+    behind_turn(flags, step)
 }
 
 /// The flush actor, and write-back where it has nothing to do, until all is submitted and answered.
@@ -137,23 +191,8 @@ pub fn flush_loop<N: SessionNames, H: Wait, G: Gate>(
         if !passes(gate, 102, &mut turn) {
             continue;
         }
-        let submitted = flags.is_submitted();
-        let step = side.lock(rt).flush_or_take();
-        match turned(flags, step) {
-            None => return,
-            Some(true) => continue,
-            Some(false) => {}
-        }
-        if submitted && side.lock(rt).is_answered() {
-            flags.raise_flushed();
+        if !goes_on(flush_or_write_back(rt, side, flags, &mut picks)) {
             return;
-        }
-        let word = picks.next_word();
-        let step = side.lock(rt).writeback_word(word);
-        match turned(flags, step) {
-            None => return,
-            Some(true) => {}
-            Some(false) => thread::yield_now(),
         }
     }
 }
@@ -175,11 +214,8 @@ pub fn accept_loop<S: Scheduler + OpensScheduler, N: PartNames, H: Wait, G: Gate
         }
         let flushed = flags.is_flushed();
         let step = side.lock(rt).accept();
-        match told(flags, step) {
-            None => return,
-            Some(true) => {}
-            Some(false) if flushed => return,
-            Some(false) => thread::yield_now(),
+        if !goes_on(behind(flags, step, flushed)) {
+            return;
         }
     }
 }
@@ -204,30 +240,26 @@ pub fn dispatch_loop<S: Scheduler + OpensScheduler, N: PartNames, H: Wait, G: Ga
         let flushed = flags.is_flushed();
         let word = picks.next_word();
         let step = side.lock(rt).dispatch_word(word);
-        match told(flags, step) {
-            None => return,
-            Some(true) => {}
-            Some(false) if flushed => return,
-            Some(false) => thread::yield_now(),
+        if !goes_on(behind(flags, step, flushed)) {
+            return;
         }
     }
 }
 
 // One command is taken, one transferred, and one completion sent, each under a lock of its own, where there is one. Whether
-// there was any; None where memory was refused.
+// there was any.
 fn take_and_transfer<D: OrderedDev + OpensDevice, N: PartNames, H: Wait>(
     rt: &H,
     side: &Mutex<DeviceSide<'_, D, N, H>>,
-    flags: &Flags,
     word: u32,
-) -> Option<bool> {
-    let step = side.lock(rt).receive();
-    let received = told(flags, step)?;
-    let step = side.lock(rt).transfer_word(word);
-    let transferred = told(flags, step)?;
-    let step = side.lock(rt).answer();
-    let answered = told(flags, step)?;
-    Some(received || transferred || answered)
+) -> Result<bool, NoMemory> {
+    let received = side.lock(rt).receive();
+    let received = received?;
+    let transferred = side.lock(rt).transfer_word(word);
+    let transferred = transferred?;
+    let answered = side.lock(rt).answer();
+    let answered = answered?;
+    Ok(received || transferred || answered)
 }
 
 /// The device takes commands, transfers them and answers.
@@ -249,11 +281,9 @@ pub fn transfer_loop<D: OrderedDev + OpensDevice, N: PartNames, H: Wait, G: Gate
         }
         let flushed = flags.is_flushed();
         let word = picks.next_word();
-        match take_and_transfer(rt, side, flags, word) {
-            None => return,
-            Some(true) => {}
-            Some(false) if flushed => return,
-            Some(false) => thread::yield_now(),
+        let step = take_and_transfer(rt, side, word);
+        if !goes_on(behind(flags, step, flushed)) {
+            return;
         }
     }
 }
@@ -278,11 +308,8 @@ pub fn persist_loop<D: OrderedDev + OpensDevice, N: PartNames, H: Wait, G: Gate>
         let flushed = flags.is_flushed();
         let word = picks.next_word();
         let step = side.lock(rt).persist_word(word);
-        match told(flags, step) {
-            None => return,
-            Some(true) => {}
-            Some(false) if flushed => return,
-            Some(false) => thread::yield_now(),
+        if !goes_on(behind(flags, step, flushed)) {
+            return;
         }
     }
 }

@@ -171,6 +171,7 @@ pub fn run_sides<
     let mut sched = SchedSide::<S, N, H>::open(alloc, sched, sched_ids, request, send);
     let mut dev = DeviceSide::<D, N, H>::open(alloc, dev, device_ids, command, post);
     let count = workers.len().max(1);
+    let mut is_refused = false;
     for _ in rt.forever() {
         let flags = Flags::lowered();
         let host_lock = Mutex::new(host);
@@ -197,14 +198,14 @@ pub fn run_sides<
         host = host_lock.into_inner();
         sched = sched_lock.into_inner();
         dev = dev_lock.into_inner();
-        if flags.is_refused() {
-            drop(joined(host, sched, dev));
-            return Err(NoMemory);
-        }
-        if has_ended(cut, host.host(), sched.sched(), dev.dev()) {
-            return Ok(joined(host, sched, dev));
+        is_refused = flags.is_refused();
+        if is_refused || has_ended(cut, host.host(), sched.sched(), dev.dev()) {
+            break;
         }
     }
-    drop(joined(host, sched, dev));
-    Err(NoMemory)
+    if is_refused || !has_ended(cut, host.host(), sched.sched(), dev.dev()) {
+        drop(joined(host, sched, dev));
+        return Err(NoMemory);
+    }
+    Ok(joined(host, sched, dev))
 }

@@ -2,7 +2,8 @@ use Rattle.std.proofs.Common.{sym, ◌∙◌}
 use Rattle.session_threads.proofs.SidesLemmas.Fits.{ended_as}
 use Rattle.session_threads.proofs.sides.running.run_sides.Goals as goal
 
-pub returns-then-has_ended-clause-ended : goal.returns-then-has_ended-clause-ended
-returns-then-has_ended-clause-ended g c =
-    let out = c.joined-then-has_ended.ensures in
-    ended_as c.args.cut _ _ _ _ _ _ (out.host ∙ sym c.host.ensures) (out.sched ∙ sym c.sched.ensures) (out.dev ∙ sym c.dev.ensures) (c.has_ended.ensures.0 c.if-has_ended.true)
+pub returns-clause-ended : goal.returns-clause-ended
+returns-clause-ended g c =
+    let out = c.joined-2.ensures in
+    ended_as c.args.cut _ _ _ _ _ _ (out.host ∙ sym c.host-else-is_refused-2.ensures) (out.sched ∙ sym c.sched-else-is_refused-2.ensures) (out.dev ∙ sym c.dev-else-is_refused-2.ensures)
+    (c.has_ended-else-is_refused-2.ensures.0 c.if-not-has_ended.false)
