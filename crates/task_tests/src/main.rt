@@ -1,13 +1,22 @@
 //! The program once more, for a stored run that ends with a fault: its script is refused, so that nothing is printed and the
 //! status tells why. And tests of the top call's tasks that check an image, run a generated workload, the script of a store and
-//! a volume script in threads, by what goes out; and a law on how long an input may be.
+//! a volume script in threads, by what goes out; and a law on how long an input may be. And tests of sessions in threads below
+//! the top call: what is left of four threads that sync their files, that workers run beside each other, and what two of the
+//! sides do at the ends of their queues.
 //!
-//! Stands on `barrierfs_top`, and on `session_report::bulk` for the script of a workload.
+//! Stands on `barrierfs_top`, on `session_report::bulk` for the script of a workload, and on `session_threads`; `sides` also on
+//! the scheduler and the device that it drives.
 #![tactic(auto)]
 
 #[cfg(test)]
 mod checks;
+#[cfg(test)]
+mod gates;
 pub mod limits;
+#[cfg(test)]
+mod sessions;
+#[cfg(test)]
+mod sides;
 #[cfg(test)]
 mod stores;
 #[cfg(test)]

@@ -1,7 +1,7 @@
 //! Streams that fail, and blocks and images at concrete values.
 ghost use Rattle.std.specs.Prelude.{Some};
 
-use crate::same::expect;
+use crate::steps::expect;
 use blk_base::{
     Block, Failed, Image, MemSink, MemSource, ReadEnd, Sink, SinkFault, Source, StdSink, StdSource,
     read_all, read_image, write_all,
@@ -81,7 +81,7 @@ fn reads_in_pieces(rt: HostRuntime) {
     let mut buf = [9; 3];
     for (row, wanted) in READS.iter().enumerate() {
         let came = (source.read(&mut buf), buf);
-        expect(&rt, row, &came, wanted);
+        expect(&rt, "row", row, &came, wanted);
     }
 }
 
@@ -98,7 +98,7 @@ fn reads_from_std(rt: HostRuntime) {
     let mut buf = [0; 2];
     for (row, wanted) in STD_READS.iter().enumerate() {
         let came = (source.read(&mut buf), buf);
-        expect(&rt, row, &came, wanted);
+        expect(&rt, "row", row, &came, wanted);
     }
 }
 
@@ -115,7 +115,7 @@ fn writes_in_memory(rt: HostRuntime) {
     let mut sink = MemSink::new(Vec::new(rt.alloc()), fails);
     for (row, (bytes, answer, written)) in WRITES.iter().enumerate() {
         let came = sink.write(bytes);
-        expect(&rt, row, &(came, sink.bytes()), &(*answer, *written));
+        expect(&rt, "row", row, &(came, sink.bytes()), &(*answer, *written));
     }
 }
 
@@ -123,8 +123,8 @@ fn writes_in_memory(rt: HostRuntime) {
 fn writes_to_std(rt: HostRuntime) {
     let mut out = Vec::new(rt.alloc());
     let written = StdSink::new(&mut out).write(&[4, 5]);
-    expect(&rt, 0, &written, &Ok(2));
-    expect(&rt, 1, &out.as_slice(), &[4, 5].as_slice());
+    expect(&rt, "row", 0, &written, &Ok(2));
+    expect(&rt, "row", 1, &out.as_slice(), &[4, 5].as_slice());
 }
 
 // The bytes of a source, its call that fails, how many are read at most, and how reading ends.
@@ -147,7 +147,7 @@ fn reads_all(rt: HostRuntime) {
             Ok(read) => Ok(read.as_slice()),
             Err(end) => Err(*end),
         };
-        expect(&rt, row, &came, wanted);
+        expect(&rt, "row", row, &came, wanted);
     }
 }
 
@@ -168,7 +168,13 @@ fn writes_all(rt: HostRuntime) {
             faults: 0,
         };
         let came = write_all(&mut sink, &[5, 6, 7]);
-        expect(&rt, row, &(came, sink.bytes.as_slice()), &(*answer, *taken));
+        expect(
+            &rt,
+            "row",
+            row,
+            &(came, sink.bytes.as_slice()),
+            &(*answer, *taken),
+        );
     }
 }
 
@@ -180,7 +186,7 @@ fn makes_blocks(rt: HostRuntime) {
     let bytes = block.as_slice();
     let is_same = copy == Block::fill(4);
     let came = (bytes[0], bytes[1022], bytes[1023], is_same);
-    expect(&rt, 0, &came, &(4, 4, 6, true));
+    expect(&rt, "row", 0, &came, &(4, 4, 6, true));
 }
 
 // The byte that fills a block, the place and the value of one that differs, and whether the block is zeros and which byte
@@ -208,7 +214,13 @@ fn sees_blocks_of_one_byte(rt: HostRuntime) {
             assert!(rt; *at < 1024);
             block.set(*at, *byte);
         }
-        expect(&rt, row, &(block.is_zeros(), block.fill_byte()), wanted);
+        expect(
+            &rt,
+            "row",
+            row,
+            &(block.is_zeros(), block.fill_byte()),
+            wanted,
+        );
     }
 }
 
@@ -348,7 +360,7 @@ fn reads_images(rt: HostRuntime) {
             Ok(image) => wanted.is_ok_and(|fills| is_filled(&image, fills)),
             Err(end) => *wanted == Err(end),
         };
-        expect(&rt, row, &is_wanted, &true);
+        expect(&rt, "row", row, &is_wanted, &true);
     }
 }
 
@@ -422,6 +434,12 @@ fn writes_images(rt: HostRuntime) {
             write_step(&rt, &mut image, it);
         }
         let copied = are_filled(&rt, rt.alloc(), &image, fills);
-        expect(&rt, row, &(is_filled(&image, fills), copied), &(true, true));
+        expect(
+            &rt,
+            "row",
+            row,
+            &(is_filled(&image, fills), copied),
+            &(true, true),
+        );
     }
 }

@@ -1,5 +1,5 @@
 //! Numbers in both orders, with bytes worked out by hand.
-use crate::same::expect;
+use crate::steps::expect;
 use byte_fields::{
     fields_are_read, numbers_are_read, put_u8, put_u16_be, put_u16_le, put_u32_be, put_u32_le,
     records_are_read, u8_at, u16_at_be, u16_at_le, u32_at_be, u32_at_le, zeroed,
@@ -29,7 +29,7 @@ fn reads_and_writes_in_both_orders(rt: HostRuntime) {
         (0xFEDC_BA98, 0x98BA_DCFE),
         0x98BA_DCFE,
     );
-    expect(&rt, 0, &came, &wanted);
+    expect(&rt, "row", 0, &came, &wanted);
     numbers_are_read();
     fields_are_read();
     records_are_read();

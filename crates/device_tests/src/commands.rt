@@ -1,7 +1,7 @@
 //! Tests: parts, commands, lists and queues of a few items.
 ghost use Rattle.std.specs.Prelude.{◌≡◌, ◌≤◌, ◌<◌, length};
 
-use crate::same::expect;
+use crate::steps::expect;
 use blk_base::Block;
 use order_model::{
     Command, Commands, Completion, History, Inlet, Kind, ListQueue, Outlet, Part, Parts, Priority,
@@ -31,7 +31,7 @@ fn passes<Q: Outlet<u32> + Inlet<u32>>(
 fn queue_by_its_bounds(rt: HostRuntime) {
     let mut queue = ListQueue::make(rt.alloc(), 1).expect(&rt, "no queue");
     let came = passes(&mut queue);
-    expect(&rt, 0, &came, &(Ok(()), Err(8), Some(7)));
+    expect(&rt, "row", 0, &came, &(Ok(()), Err(8), Some(7)));
 }
 
 // The number that is put, if one is, or else one is taken; and the number that comes back.
@@ -58,7 +58,7 @@ fn queue_keeps_order(rt: HostRuntime) {
             Some(number) => queue.put(*number).err(),
             None => queue.take(),
         };
-        expect(&rt, step, &came, back);
+        expect(&rt, "row", step, &came, back);
     }
 }
 
@@ -66,7 +66,7 @@ fn queue_keeps_order(rt: HostRuntime) {
 fn push_all(rt: &impl Abort, parts: &mut Parts, pushes: &[(u64, u8, bool)]) {
     for (row, (id, block, back)) in pushes.iter().enumerate() {
         let came = parts.push(part(*id, *block, *block)) == Err(part(*id, *block, *block));
-        expect(rt, row, &came, back);
+        expect(rt, "row", row, &came, back);
     }
 }
 
@@ -107,9 +107,15 @@ fn holds_sixteen_parts(rt: HostRuntime) {
             Some(part) => Some(part.id),
             None => None,
         };
-        expect(&rt, *at as usize, &came, id);
+        expect(&rt, "row", *at as usize, &came, id);
     }
-    expect(&rt, 0, &(parts.len(), parts.is_empty()), &(16, false));
+    expect(
+        &rt,
+        "row",
+        0,
+        &(parts.len(), parts.is_empty()),
+        &(16, false),
+    );
 }
 
 // Parts of the same block, of one further on and of one before come back.
@@ -120,7 +126,7 @@ fn parts_follow(rt: HostRuntime) {
     let mut parts = Parts::one(part(1, 5, 5));
     push_all(&rt, &mut parts, &FOLLOWING);
     let follows = parts.as_slice() == [part(1, 5, 5), part(2, 6, 6)].as_slice();
-    expect(&rt, 0, &follows, &true);
+    expect(&rt, "row", 0, &follows, &true);
 }
 
 #[test]
@@ -130,7 +136,7 @@ fn commands_of_one_request(rt: HostRuntime) {
     let flags = (command.priority, command.barrier, command.flush);
     drop(command);
     let wanted = (true, (Priority::Ordered, true, None));
-    expect(&rt, 0, &(is_whole, flags), &wanted);
+    expect(&rt, "row", 0, &(is_whole, flags), &wanted);
 }
 
 // A command of these parts, or a flush.
@@ -173,6 +179,7 @@ fn expect_places(rt: &impl Abort, commands: &Commands) {
         let came = (commands.part_id(at), commands.first_part(at));
         expect(
             rt,
+            "row",
             at,
             &(came, commands.part(at) == part),
             &((id, *first), true),
@@ -188,7 +195,7 @@ fn commands_in_order(rt: HostRuntime) {
     commands.push(&command(Parts::none(), Some(2)));
     commands.push(&command(Parts::one(part(3, 9, 200)), None));
     let counts = (commands.len(), commands.count_parts(), commands.is_empty());
-    expect(&rt, 0, &counts, &(3, 3, false));
+    expect(&rt, "row", 0, &counts, &(3, 3, false));
     expect_places(&rt, &commands);
 }
 
@@ -212,7 +219,7 @@ fn tallies_count(rt: HostRuntime) {
     tally.push(&put(part(0, 5, 200)));
     tally.push(&put(part(1, 6, 6)));
     let counts = (was_empty, tally.len(), tally.is_empty());
-    expect(&rt, 0, &counts, &(true, 2, false));
+    expect(&rt, "row", 0, &counts, &(true, 2, false));
 }
 
 static GROWN: [Completion; 2] = [Completion::Moved(4), Completion::Cut];
@@ -222,5 +229,5 @@ fn history_grows(rt: HostRuntime) {
     let mut history = History::make(rt.alloc(), 2).expect(&rt, "no history");
     history.push(Completion::Moved(4));
     history.push(Completion::Cut);
-    expect(&rt, 0, &history.as_slice(), &GROWN.as_slice());
+    expect(&rt, "row", 0, &history.as_slice(), &GROWN.as_slice());
 }

@@ -1,5 +1,5 @@
 //! Runs and digits that were written by hand.
-use crate::same::expect;
+use crate::steps::expect;
 use byte_text::{put_runs, runs_are_maximal};
 
 static RUNS: [(&[u8], &str); 5] = [
@@ -16,7 +16,7 @@ fn writes_runs(rt: HostRuntime) {
         let mut out = String::new(rt.alloc());
         let put: Result<_, _> = put_runs(&mut out, bytes);
         put.expect(&rt, "no text");
-        expect(&rt, row, &out.as_str(), text);
+        expect(&rt, "row", row, &out.as_str(), text);
     }
     runs_are_maximal();
 }

@@ -1,5 +1,5 @@
 use Rattle.std.proofs.Common.{None}
-use Rattle.thread_tests.proofs.sides.carry_two_requests.Given as goal
+use Rattle.task_tests.proofs.sides.carry_two_requests.Given as goal
 
 abbrev pub ghosts-plays-N-QueueNames : goal.ghosts-plays-N-QueueNames
 ghosts-plays-N-QueueNames g a = record { submission = a.passes.submit.table_id; dispatch = a.passes.send.table_id; completion = a.passes.post.table_id }

@@ -1,5 +1,5 @@
 //! Tests of sets of numbers.
-use crate::same::expect;
+use crate::steps::expect;
 use number_sets::{add_u32, add_u64, has_u32, has_u64, sets_have_what_was_added, take_u32};
 
 #[test]
@@ -16,6 +16,7 @@ fn adds_and_takes_numbers(rt: HostRuntime) {
     let has = (has_u32(&blocks, 4), has_u32(&blocks, 7));
     expect(
         &rt,
+        "row",
         0,
         &(is_added, is_taken, has),
         &(true, true, (true, false)),
@@ -30,5 +31,5 @@ fn adds_long_numbers(rt: HostRuntime) {
     add_u64(&mut births, 1);
     let is_added = births.as_slice() == [1, 8_589_934_593].as_slice();
     let has = (has_u64(&births, 1), has_u64(&births, 2));
-    expect(&rt, 0, &(is_added, has), &(true, (true, false)));
+    expect(&rt, "row", 0, &(is_added, has), &(true, (true, false)));
 }
