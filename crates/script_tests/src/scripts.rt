@@ -121,11 +121,6 @@ static UNKNOWN_WORDS: [Row; 11] = [
     ("device 4\nflsh\ndepth 0\n", 2, Word),
 ];
 
-#[test]
-fn knows_first_words(rt: HostRuntime) {
-    expect_faults(&rt, rt.alloc(), Grammar::Script, "", &UNKNOWN_WORDS);
-}
-
 static WRONG_WORDS: [Row; 26] = [
     ("device\n", 1, Word),
     ("device 4 5\n", 1, Word),
@@ -155,11 +150,6 @@ static WRONG_WORDS: [Row; 26] = [
     ("blocks 4\nevents\ndispatch x 2\n", 3, Word),
 ];
 
-#[test]
-fn counts_other_words(rt: HostRuntime) {
-    expect_faults(&rt, rt.alloc(), Grammar::Script, "", &WRONG_WORDS);
-}
-
 static WRONG_SPACES: [Row; 21] = [
     ("device 04\n", 1, Word),
     ("device +4\n", 1, Word),
@@ -183,11 +173,6 @@ static WRONG_SPACES: [Row; 21] = [
     ("blocks 4\nevents\ndispatch 00\n", 3, Word),
     ("blocks 4\nevents\naccept x 02\n", 3, Word),
 ];
-
-#[test]
-fn parts_words_by_one_space(rt: HostRuntime) {
-    expect_faults(&rt, rt.alloc(), Grammar::Script, "", &WRONG_SPACES);
-}
 
 static OUT_OF_ORDER: [Row; 28] = [
     ("", 1, Order),
@@ -224,11 +209,6 @@ static OUT_OF_ORDER: [Row; 28] = [
     ("blocks 4\nqueue 4\n# events\n", 4, Order),
 ];
 
-#[test]
-fn keeps_the_order(rt: HostRuntime) {
-    expect_faults(&rt, rt.alloc(), Grammar::Script, "", &OUT_OF_ORDER);
-}
-
 static LINES_OF_THE_SCHEDULER: [Row; 7] = [
     ("device 4\nqueue 4\n", 2, Order),
     ("device 4\nqueue 0\n", 2, Order),
@@ -238,17 +218,6 @@ static LINES_OF_THE_SCHEDULER: [Row; 7] = [
     ("device 4\nevents\ndispatch 0\n", 3, Order),
     ("device 4\nevents\ndispatch\n", 3, Order),
 ];
-
-#[test]
-fn keeps_the_scheduler_out_of_device_scripts(rt: HostRuntime) {
-    expect_faults(
-        &rt,
-        rt.alloc(),
-        Grammar::Script,
-        "",
-        &LINES_OF_THE_SCHEDULER,
-    );
-}
 
 // The words of volume scripts, and those behind which they are out of order.
 const WORDS_OF_VOLUMES: &str =
@@ -287,11 +256,6 @@ static TWO_HEADER_LINES: [Row; 7] = [
     ("device 4\ncut 4\ndepth 4\ncut 4\n", 4, Twice),
     ("blocks 4\ncut 0\n\n# one\ncut\n", 5, Twice),
 ];
-
-#[test]
-fn tells_header_lines_twice(rt: HostRuntime) {
-    expect_faults(&rt, rt.alloc(), Grammar::Script, "", &TWO_HEADER_LINES);
-}
 
 static BAD_FAIL_LINES: [Row; 11] = [
     ("fail 1\n", 1, Order),
@@ -336,12 +300,6 @@ static FAIL_LINES: [Told; 3] = [
     },
 ];
 
-#[test]
-fn reads_the_line_of_a_failing_transfer(rt: HostRuntime) {
-    expect_faults(&rt, rt.alloc(), Grammar::Script, "", &BAD_FAIL_LINES);
-    expect_scripts(&rt, rt.alloc(), &FAIL_LINES);
-}
-
 static BAD_ELEVATOR_LINES: [Row; 5] = [
     ("elevator plain\n", 1, Order),
     ("device 4\nelevator\n", 2, Order),
@@ -361,12 +319,6 @@ static ELEVATOR_LINES: [Told; 2] = [
     },
     BLOCKS,
 ];
-
-#[test]
-fn reads_the_line_of_the_elevator(rt: HostRuntime) {
-    expect_faults(&rt, rt.alloc(), Grammar::Script, "", &BAD_ELEVATOR_LINES);
-    expect_scripts(&rt, rt.alloc(), &ELEVATOR_LINES);
-}
 
 static BAD_FLASH_LINES: [Row; 9] = [
     ("flash 3\n", 1, Order),
@@ -402,12 +354,6 @@ static FLASH_LINES: [Told; 3] = [
     BLOCKS,
 ];
 
-#[test]
-fn reads_the_line_of_the_flash_log(rt: HostRuntime) {
-    expect_faults(&rt, rt.alloc(), Grammar::Script, "", &BAD_FLASH_LINES);
-    expect_scripts(&rt, rt.alloc(), &FLASH_LINES);
-}
-
 static OUTSIDE_LIMITS: [Row; 23] = [
     ("device 0\n", 1, Number),
     ("device 4097\n", 1, Number),
@@ -433,11 +379,6 @@ static OUTSIDE_LIMITS: [Row; 23] = [
     ("blocks 4\nevents\naccept x 1000001\n", 3, Number),
     ("blocks 4\nevents\ndispatch 4294967296\n", 3, Number),
 ];
-
-#[test]
-fn keeps_the_limits(rt: HostRuntime) {
-    expect_faults(&rt, rt.alloc(), Grammar::Script, "", &OUTSIDE_LIMITS);
-}
 
 // As many steps of events and requests as there may be, and more.
 static MOST: [MadeRow; 4] = [
@@ -485,11 +426,6 @@ static DEFAULT_SCRIPTS: [Told; 2] = [
     },
 ];
 
-#[test]
-fn takes_defaults(rt: HostRuntime) {
-    expect_scripts(&rt, rt.alloc(), &DEFAULT_SCRIPTS);
-}
-
 static DEVICE_SCRIPTS: [Told; 1] = [Told {
     text: b"# a comment
 device 4096
@@ -525,11 +461,6 @@ persist 0 x 2",
         event!(CoreEvent::Persist(0), 2),
     ],
 }];
-
-#[test]
-fn reads_device_scripts(rt: HostRuntime) {
-    expect_scripts(&rt, rt.alloc(), &DEVICE_SCRIPTS);
-}
 
 static BLOCKS_SCRIPTS: [Told; 1] = [Told {
     text: b"blocks 2
@@ -567,9 +498,39 @@ submit x 2
     ],
 }];
 
+// Words that are none, too many or too few, spaces, the order of lines, lines that stand twice, and limits.
 #[test]
-fn reads_blocks_scripts(rt: HostRuntime) {
-    expect_scripts(&rt, rt.alloc(), &BLOCKS_SCRIPTS);
+fn tells_first_faults(rt: HostRuntime) {
+    let tables = [
+        UNKNOWN_WORDS.as_slice(),
+        WRONG_WORDS.as_slice(),
+        WRONG_SPACES.as_slice(),
+        OUT_OF_ORDER.as_slice(),
+        LINES_OF_THE_SCHEDULER.as_slice(),
+        TWO_HEADER_LINES.as_slice(),
+        BAD_FAIL_LINES.as_slice(),
+        BAD_ELEVATOR_LINES.as_slice(),
+        BAD_FLASH_LINES.as_slice(),
+        OUTSIDE_LIMITS.as_slice(),
+    ];
+    for rows in tables {
+        expect_faults(&rt, rt.alloc(), Grammar::Script, "", rows);
+    }
+}
+
+#[test]
+fn reads_scripts(rt: HostRuntime) {
+    let tables = [
+        DEFAULT_SCRIPTS.as_slice(),
+        FAIL_LINES.as_slice(),
+        ELEVATOR_LINES.as_slice(),
+        FLASH_LINES.as_slice(),
+        DEVICE_SCRIPTS.as_slice(),
+        BLOCKS_SCRIPTS.as_slice(),
+    ];
+    for rows in tables {
+        expect_scripts(&rt, rt.alloc(), rows);
+    }
 }
 
 static KINDS: [(ScriptKind, &str); 5] = [

@@ -164,11 +164,6 @@ static CONFLICTS: [Told; 1] = [Told {
     ..BARE
 }];
 
-#[test]
-fn reads_conflicts(rt: HostRuntime) {
-    expect_scripts(&rt, rt.alloc(), &CONFLICTS);
-}
-
 static RECOVERIES: Told = Told {
     text: (
         V,
@@ -266,11 +261,6 @@ static HEADERS: [Told; 5] = [
     },
 ];
 
-#[test]
-fn reads_headers(rt: HostRuntime) {
-    expect_scripts(&rt, rt.alloc(), &HEADERS);
-}
-
 const SIZES: &str = "volume inodes 32 zones 7 journal 128";
 
 // The last words of the first line choose the width of names and the tags of the journal.
@@ -296,11 +286,6 @@ static KINDS: [Told; 4] = [
         ..BARE
     },
 ];
-
-#[test]
-fn reads_kinds_of_volumes(rt: HostRuntime) {
-    expect_scripts(&rt, rt.alloc(), &KINDS);
-}
 
 static WRONG_NAMES: [Row; 18] = [
     ("names 30\n", 1, Word),
@@ -356,11 +341,6 @@ static WRONG_NAMES: [Row; 18] = [
     ),
 ];
 
-#[test]
-fn tests_names(rt: HostRuntime) {
-    expect_faults(&rt, rt.alloc(), Grammar::Session, "", &WRONG_NAMES);
-}
-
 static WRONG_TAGS: [Row; 13] = [
     ("tags 64\n", 1, Word),
     ("volume inodes 32 zones 64 journal 128\ntags 64\n", 2, Word),
@@ -385,11 +365,6 @@ static WRONG_TAGS: [Row; 13] = [
     ),
     ("volume inodes 32 zones 6 journal 128 tags 64\n", 2, Order),
 ];
-
-#[test]
-fn tests_tags(rt: HostRuntime) {
-    expect_faults(&rt, rt.alloc(), Grammar::Session, "", &WRONG_TAGS);
-}
 
 static WRONG_FIRST_LINES: [Row; 23] = [
     ("", 1, Order),
@@ -420,11 +395,6 @@ static WRONG_FIRST_LINES: [Row; 23] = [
     ("volume inodes 32 zones 6 journal 16384\n", 2, Order),
     ("volume inodes 65535 zones 65535 journal 128\n", 2, Order),
 ];
-
-#[test]
-fn tests_first_lines(rt: HostRuntime) {
-    expect_faults(&rt, rt.alloc(), Grammar::Session, "", &WRONG_FIRST_LINES);
-}
 
 static BEHIND_THE_FIRST_LINE: [Row; 35] = [
     ("put 0 11 free\n", 2, Order),
@@ -464,11 +434,6 @@ static BEHIND_THE_FIRST_LINE: [Row; 35] = [
     ("events\nrecover d1000001 x\n", 3, Word),
 ];
 
-#[test]
-fn tests_order(rt: HostRuntime) {
-    expect_faults(&rt, rt.alloc(), Grammar::Session, V, &BEHIND_THE_FIRST_LINE);
-}
-
 static WRONG_NUMBERS: [Row; 20] = [
     ("depth 0\n", 2, Number),
     ("queue 65\n", 2, Number),
@@ -501,11 +466,6 @@ static WRONG_NUMBERS: [Row; 20] = [
     ),
 ];
 
-#[test]
-fn tests_numbers(rt: HostRuntime) {
-    expect_faults(&rt, rt.alloc(), Grammar::Session, V, &WRONG_NUMBERS);
-}
-
 const THREAD: &str = "volume inodes 32 zones 64 journal 128\nthread 1\n";
 
 static MOST_LINES: [Told; 1] = [Told {
@@ -527,12 +487,6 @@ static MORE_LINES: [MadeRow; 2] = [
     ),
 ];
 
-#[test]
-fn counts_lines(rt: HostRuntime) {
-    expect_scripts(&rt, rt.alloc(), &MOST_LINES);
-    expect_made(&rt, rt.alloc(), Grammar::Session, &MORE_LINES);
-}
-
 const THREADS: &str =
     "thread 1\nthread 2\nthread 3\nthread 4\nthread 5\nthread 6\nthread 7\nthread 8\nthread 9\n\
                        thread 10\nthread 11\nthread 12\nthread 13\nthread 14\nthread 15\nthread 16\n";
@@ -547,13 +501,6 @@ static SEVENTEEN_THREADS: [MadeRow; 1] = [(
     (V, THREADS, 1, "thread 17\n"),
     Some(Fault(18, Number)),
 )];
-
-// The first number of threads that is too great.
-#[test]
-fn keeps_sixteen_threads(rt: HostRuntime) {
-    expect_scripts(&rt, rt.alloc(), &SIXTEEN_THREADS);
-    expect_made(&rt, rt.alloc(), Grammar::Session, &SEVENTEEN_THREADS);
-}
 
 // The least and the greatest seed.
 static SEEDS: [Told; 2] = [
@@ -575,11 +522,6 @@ static SEEDS: [Told; 2] = [
     },
 ];
 
-#[test]
-fn keeps_seeds(rt: HostRuntime) {
-    expect_scripts(&rt, rt.alloc(), &SEEDS);
-}
-
 const RECOVER: &str = "volume inodes 32 zones 64 journal 128\nevents\nrecover";
 
 const BYTES: &str = "volume inodes 32 zones 64 journal 128\nthread 1\nbytes /a 0 ";
@@ -593,6 +535,43 @@ static MOST: [MadeRow; 4] = [
 ];
 
 #[test]
+fn reads_scripts(rt: HostRuntime) {
+    let tables = [
+        CONFLICTS.as_slice(),
+        HEADERS.as_slice(),
+        KINDS.as_slice(),
+        MOST_LINES.as_slice(),
+        SIXTEEN_THREADS.as_slice(),
+        SEEDS.as_slice(),
+    ];
+    for rows in tables {
+        expect_scripts(&rt, rt.alloc(), rows);
+    }
+}
+
+#[test]
+fn tells_first_faults(rt: HostRuntime) {
+    let tables = [
+        ("", WRONG_NAMES.as_slice()),
+        ("", WRONG_TAGS.as_slice()),
+        ("", WRONG_FIRST_LINES.as_slice()),
+        (V, BEHIND_THE_FIRST_LINE.as_slice()),
+        (V, WRONG_NUMBERS.as_slice()),
+    ];
+    for (head, rows) in tables {
+        expect_faults(&rt, rt.alloc(), Grammar::Session, head, rows);
+    }
+}
+
+// As many lines, threads, words and digits as there may be, and one more.
+#[test]
 fn keeps_the_most_of_each(rt: HostRuntime) {
-    expect_made(&rt, rt.alloc(), Grammar::Session, &MOST);
+    let tables = [
+        MORE_LINES.as_slice(),
+        SEVENTEEN_THREADS.as_slice(),
+        MOST.as_slice(),
+    ];
+    for rows in tables {
+        expect_made(&rt, rt.alloc(), Grammar::Session, rows);
+    }
 }

@@ -135,11 +135,6 @@ static LAST_BLOCK: [Row; 4] = [
     ("stat /f", "file size 268966912 links 1"),
 ];
 
-#[test]
-fn writes_up_to_the_last_block(rt: HostRuntime) {
-    expect_replies(&rt, rt.alloc(), DEFAULT_WIDTH, &LAST_BLOCK);
-}
-
 static NAMES_AND_KINDS: [Row; 8] = [
     ("mkdir /a", "ok"),
     ("mkdir /a", "exists"),
@@ -150,11 +145,6 @@ static NAMES_AND_KINDS: [Row; 8] = [
     ("list /a", "names abcdefghijklmn"),
     ("rename /a /a/b", "invalid"),
 ];
-
-#[test]
-fn refuses_names_and_kinds(rt: HostRuntime) {
-    expect_replies(&rt, rt.alloc(), DEFAULT_WIDTH, &NAMES_AND_KINDS);
-}
 
 static LONG_NAMES: [Row; 10] = [
     ("mkdir /abcdefghijklmno", "ok"),
@@ -177,11 +167,6 @@ static LONG_NAMES: [Row; 10] = [
     ("stat /abcdefghijklmno", "dir size 128 links 2"),
     ("stat /", "dir size 128 links 3"),
 ];
-
-#[test]
-fn takes_long_names(rt: HostRuntime) {
-    expect_replies(&rt, rt.alloc(), 30, &LONG_NAMES);
-}
 
 // A new tree whose root has so many names takes one more.
 fn expect_full(rt: &impl Abort, alloc: Global, width: u16, names: u32, rows: &[Row])
@@ -224,11 +209,6 @@ static PATHS: [Row; 10] = [
     ("stat /", "dir size 48 links 3"),
 ];
 
-#[test]
-fn reads_cuts_and_refuses_paths(rt: HostRuntime) {
-    expect_replies(&rt, rt.alloc(), DEFAULT_WIDTH, &PATHS);
-}
-
 static NAMES_TAKEN_AWAY: [Row; 10] = [
     ("create /f", "ok"),
     ("link /f /g", "ok"),
@@ -241,11 +221,6 @@ static NAMES_TAKEN_AWAY: [Row; 10] = [
     ("rmdir /a", "ok"),
     ("stat /a", "not found"),
 ];
-
-#[test]
-fn takes_names_away(rt: HostRuntime) {
-    expect_replies(&rt, rt.alloc(), DEFAULT_WIDTH, &NAMES_TAKEN_AWAY);
-}
 
 static WRITES: [Row; 15] = [
     ("create /f", "ok"),
@@ -266,6 +241,16 @@ static WRITES: [Row; 15] = [
 ];
 
 #[test]
-fn writes_over_and_cuts(rt: HostRuntime) {
-    expect_replies(&rt, rt.alloc(), DEFAULT_WIDTH, &WRITES);
+fn answers_calls(rt: HostRuntime) {
+    let tables = [
+        LAST_BLOCK.as_slice(),
+        NAMES_AND_KINDS.as_slice(),
+        PATHS.as_slice(),
+        NAMES_TAKEN_AWAY.as_slice(),
+        WRITES.as_slice(),
+    ];
+    for rows in tables {
+        expect_replies(&rt, rt.alloc(), DEFAULT_WIDTH, rows);
+    }
+    expect_replies(&rt, rt.alloc(), 30, &LONG_NAMES);
 }
