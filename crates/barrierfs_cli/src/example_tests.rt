@@ -1,7 +1,7 @@
 //! Every script of examples/ beside its output. Written by examples/rows, and not by hand.
 use crate::tests::expect_replays;
 
-const EXAMPLES: [(&str, &str); 17] = [
+static EXAMPLES: [(&str, &str); 17] = [
     // database-barrier
     (
         "# A database writes a record to its log, then the page that the record is about, each followed by a barrier, and the\n# power goes off before the second transaction is whole.\nvolume inodes 32 zones 64 journal 128\n# Eight puts of the first transaction, each transferred and persisted, and four of the five of the second.\ncut 24\nthread 1\ncreate /log\ncreate /db\nwrite /log 0 4 01\nfbarrier /log\nwrite /db 0 1024 aa\nfbarrier /db\nevents\n# Two files and the record; then the barrier begins, sends the record's page, and asks for the transaction.\ncall 1 x 6\n# Closed, planned, and sent: journal superblock, descriptor, the blocks 2 to 5 (both bitmaps, inodes, root),\n# commit block.\ncommit x 9\n# All eight requests are submitted, so the barrier is answered. The device has not taken one of them.\ncall 1\nback 12\n# The page of /db, which is a request of its own, and the barrier.\ncall 1 x 4\n# Descriptor, zone bitmap, inodes, commit block. This barrier, too, is answered before the device has anything of its transaction.\ncommit x 6\ncall 1\n# Only the commit block does not get onto the medium, so the second transaction is not there: /db has no page, though\n# its bytes stand on the medium, and the log tells the database what it has to do again.\nback 12\n",

@@ -82,31 +82,19 @@ fn shows_a_megabyte(rt: HostRuntime) {
     expect_tree(&rt, alloc, &bytes, tree);
 }
 
+// As it is, and cut off. Under the magic number of names of 30 bytes the root's 48 bytes are no whole number of slots. Of 64
+// bytes the slots are `.`, and `null` in place of `..`.
 #[test]
-fn shows_a_foreign_image(rt: HostRuntime) {
-    let alloc = rt.alloc();
-    let bytes = foreign(alloc).expect(&rt, "no memory");
-    expect_tree(&rt, alloc, &bytes, "dir /\nother /null mode 020666\n");
-}
-
-// Under the magic number of names of 30 bytes the root's 48 bytes are no whole number of slots. Of 64 bytes the slots are
-// `.`, and `null` in place of `..`.
-#[test]
-fn shows_a_foreign_image_with_long_names(rt: HostRuntime) {
+fn shows_foreign_images(rt: HostRuntime) {
     let alloc = rt.alloc();
     let mut bytes = foreign(alloc).expect(&rt, "no memory");
+    expect_tree(&rt, alloc, &bytes, "dir /\nother /null mode 020666\n");
+    let front = bytes.get(..4596).expect(&rt, "short");
+    let fault = TopFault::Image(ImageFault::BadGeometry, 4);
+    expect_fault(&rt, alloc, &["show"], front, (4, fault), "cut off");
     put(bytes.as_mut_slice(), 1040, b"\x8f\x13");
     let fault = TopFault::Image(ImageFault::BadInode, 4);
     expect_fault(&rt, alloc, &["show"], &bytes, (4, fault), "half a slot");
     put(bytes.as_mut_slice(), 4100, b"\x40");
     expect_tree(&rt, alloc, &bytes, "dir /\nother /null mode 020666\n");
-}
-
-#[test]
-fn refuses_a_foreign_image_that_is_cut_off(rt: HostRuntime) {
-    let alloc = rt.alloc();
-    let bytes = foreign(alloc).expect(&rt, "no memory");
-    let front = bytes.get(..4596).expect(&rt, "short");
-    let fault = TopFault::Image(ImageFault::BadGeometry, 4);
-    expect_fault(&rt, alloc, &["show"], front, (4, fault), "cut off");
 }

@@ -1,11 +1,11 @@
 //! Images that recovery leaves, through the top call.
 use crate::make_tests::made;
-use crate::tests::{expect_refusals, expect_tree, run};
+use crate::tests::{expect_tree, run};
 use script_grammar::ScriptKind;
 use std::alloc::Global;
 use std::process::Abort;
 
-const WORDS: [&str; 2] = ["replay", "--raw"];
+static WORDS: [&str; 2] = ["replay", "--raw"];
 
 // The image that a script leaves.
 fn image_of(rt: &impl Abort, alloc: Global, script: &str) -> Vec<u8> {
@@ -40,12 +40,7 @@ fn writes_the_image_that_was_recovered(rt: HostRuntime) {
 }
 
 // Scripts of block requests, with the line and the kind of the fault.
-const REFUSED: [(&str, u32, ScriptKind); 2] = [
+pub static REFUSED: [(&str, u32, ScriptKind); 2] = [
     ("device 1\nevents\n", 1, ScriptKind::Order),
     ("# one\nblocks 0\n", 2, ScriptKind::Order),
 ];
-
-#[test]
-fn refuses_a_script_of_block_requests(rt: HostRuntime) {
-    expect_refusals(&rt, rt.alloc(), &WORDS, &REFUSED);
-}

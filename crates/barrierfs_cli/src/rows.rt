@@ -1,4 +1,4 @@
-//! Volume scripts beside what they print, worked out by hand: each module has those of one subject.
+//! Scripts beside what they print, worked out by hand: each module has volume scripts of one subject.
 mod barriers;
 mod calls;
 mod commits;
@@ -7,6 +7,9 @@ mod files;
 mod log_space;
 mod rules;
 mod syncs;
+
+use crate::raw_tests;
+use crate::tests::{REFUSED, expect_refusals};
 
 #[test]
 fn prints_what_was_worked_out(rt: HostRuntime) {
@@ -19,4 +22,11 @@ fn prints_what_was_worked_out(rt: HostRuntime) {
     files::expect_rows(&rt, alloc);
     log_space::expect_rows(&rt, alloc);
     rules::expect_rows(&rt, alloc);
+}
+
+#[test]
+fn refuses_what_is_no_script(rt: HostRuntime) {
+    expect_refusals(&rt, rt.alloc(), &["replay"], &REFUSED);
+    expect_refusals(&rt, rt.alloc(), &["replay"], &calls::REFUSED);
+    expect_refusals(&rt, rt.alloc(), &["replay", "--raw"], &raw_tests::REFUSED);
 }

@@ -13,14 +13,14 @@ const SESSION: &[u8] =
     b"volume inodes 32 zones 64 journal 128\nthread 1\ncreate /a\nsync\nevents\nround 60\n";
 
 // Words, and the scripts that they read.
-const OF_SCRIPTS: [(&[&str], &[u8]); 3] = [
+static OF_SCRIPTS: [(&[&str], &[u8]); 3] = [
     (&["replay"], BLOCKS),
     (&["replay"], SESSION),
     (&["replay", "--raw"], SESSION),
 ];
 
 // Words that read an image.
-const OF_IMAGES: [&[&str]; 3] = [&["show"], &["widen"], &["widen", "--raw"]];
+static OF_IMAGES: [&[&str]; 3] = [&["show"], &["widen"], &["widen", "--raw"]];
 
 // A sink that takes one byte a call.
 #[derive(Drop)]

@@ -143,8 +143,18 @@ pub fn expect_refusals(
     }
 }
 
+// The words of a list, with `|` between them.
+fn listed<'a>(rt: &impl Abort, alloc: Global, list: &'a str) -> Vec<&'a str> {
+    let mut words = Vec::new(alloc);
+    for word in list.split('|') {
+        let pushed: Result<(), _> = words.push(word);
+        pushed.expect(rt, "no memory");
+    }
+    words
+}
+
 // The status of these words and this input, where nothing is written and reported; else 0.
-fn refused(rt: &impl Abort, alloc: Global, list: &[&str], script: &str) -> u8 {
+pub fn refused(rt: &impl Abort, alloc: Global, list: &[&str], script: &str) -> u8 {
     let found = run(rt, alloc, list, script.as_bytes());
     if found.reported || !found.printed.is_empty() {
         0
@@ -154,15 +164,15 @@ fn refused(rt: &impl Abort, alloc: Global, list: &[&str], script: &str) -> u8 {
 }
 
 // Each of these lists of words has the status beside it, over this script.
-pub fn expect_statuses(rt: &impl Abort, alloc: Global, script: &str, rows: &[(&[&str], u8)]) {
-    for (words, status) in rows {
-        let found = refused(rt, alloc, words, script);
-        assert_eq!(rt; found, *status, "{words:?}");
+pub fn expect_statuses(rt: &impl Abort, alloc: Global, script: &str, rows: &[(&str, u8)]) {
+    for (list, status) in rows {
+        let found = refused(rt, alloc, &listed(rt, alloc, list), script);
+        assert_eq!(rt; found, *status, "{list}");
     }
 }
 
 // Scripts of block requests, and what they print.
-const SCRIPTS: [(&str, &str); 15] = [
+static SCRIPTS: [(&str, &str); 15] = [
     // No requests.
     (
         "device 2\nevents\n",
@@ -242,7 +252,7 @@ fn prints_what_requests_leave(rt: HostRuntime) {
 }
 
 // Inputs that are no script, with the line and the kind of the fault.
-const REFUSED: [(&str, u32, ScriptKind); 4] = [
+pub static REFUSED: [(&str, u32, ScriptKind); 4] = [
     ("", 1, ScriptKind::Order),
     ("device 2\nput 0 11 ordered\n", 3, ScriptKind::Order),
     (
@@ -252,11 +262,6 @@ const REFUSED: [(&str, u32, ScriptKind); 4] = [
     ),
     ("# one\nblocks 2\nqueue 65\nevents\n", 3, ScriptKind::Number),
 ];
-
-#[test]
-fn refuses_what_is_no_script(rt: HostRuntime) {
-    expect_refusals(&rt, rt.alloc(), &["replay"], &REFUSED);
-}
 
 // A script of so many bytes, whose last line is a comment.
 fn script_of_length(alloc: Global, length: usize) -> Result<Vec<u8>, AllocError> {
@@ -373,7 +378,7 @@ fn knows_the_laws_of_the_model_device(rt: HostRuntime) {
 }
 
 // Faults, and their texts.
-const FAULT_TEXTS: [(TopFault, &str); 19] = [
+static FAULT_TEXTS: [(TopFault, &str); 19] = [
     (TopFault::BadWords, "bad words"),
     (TopFault::SourceFault, "source fault"),
     (TopFault::SinkFault, "sink fault"),

@@ -8,12 +8,12 @@ use mount_make::ImageFault;
 use std::alloc::{AllocError, Global};
 use std::process::Abort;
 
-const RAW: [&str; 2] = ["widen", "--raw"];
+static RAW: [&str; 2] = ["widen", "--raw"];
 
 // The ways to widen an image, and those to read one.
-const WIDENS: [&[&str]; 2] = [&["widen"], &RAW];
+static WIDENS: [&[&str]; 2] = [&["widen"], &["widen", "--raw"]];
 
-const READS: [&[&str]; 3] = [&["show"], &["widen"], &RAW];
+static READS: [&[&str]; 3] = [&["show"], &["widen"], &["widen", "--raw"]];
 
 #[test]
 fn prints_the_tree_of_a_widened_image(rt: HostRuntime) {
@@ -23,7 +23,7 @@ fn prints_the_tree_of_a_widened_image(rt: HostRuntime) {
 }
 
 // The magic number, the size of the root, and its slots are all that changes.
-const WIDE: [(usize, &[u8]); 4] = [
+static WIDE: [(usize, &[u8]); 4] = [
     (1040, b"\x8f\x13"),
     (4100, b"\x40\x00\x00\x00"),
     (5136, b"\x00\x00\x00\x00"),
@@ -49,7 +49,7 @@ fn gives_a_widened_image_back(rt: HostRuntime) {
 }
 
 // A change of an image, and the fault that it makes with its block.
-const FAULTS: [((usize, &[u8]), ImageFault, u32); 3] = [
+static FAULTS: [((usize, &[u8]), ImageFault, u32); 3] = [
     ((1040, b"\x90\x13"), ImageFault::BadMagic, 1),
     // A size of 40 bytes.
     ((4100, b"\x28"), ImageFault::BadInode, 4),

@@ -3,10 +3,12 @@ use crate::tests::expect_replays;
 use std::alloc::Global;
 use std::process::Abort;
 
-// Pages that are written twice, with a barrier between: once the device has what stands before the barrier, the old
-// versions are there, and later the new ones. Then a barrier on data of a file that has none: it waits for the
-// transaction that made the file.
-const FIRST_VERSION: &str = "\
+static ROWS: [(&str, &str); 3] = [
+    // Pages that are written twice, with a barrier between: once the device has what stands before the barrier, the old
+    // versions are there, and later the new ones. Then a barrier on data of a file that has none: it waits for the
+    // transaction that made the file.
+    (
+        "\
 volume inodes 32 zones 64 journal 128
 thread 1
 create /f
@@ -36,9 +38,8 @@ receive x 12
 transfer 0 x 12
 persist 0 x 9
 persist 1
-";
-
-const FIRST_VERSION_PRINTS: &str = "\
+",
+        "\
 steps 21
 requests 12
 1 create /f: ok
@@ -57,9 +58,11 @@ file /f size 1024 links 1
 block 0 1024xaa
 file /g size 1024 links 1
 block 0 1024xab
-";
-
-const LAST_VERSION: &str = "\
+",
+    ),
+    // Later the new versions are there.
+    (
+        "\
 volume inodes 32 zones 64 journal 128
 thread 1
 create /f
@@ -88,9 +91,8 @@ dispatch 0
 receive x 12
 transfer 0 x 12
 persist 0 x 11
-";
-
-const LAST_VERSION_PRINTS: &str = "\
+",
+        "\
 steps 23
 requests 12
 1 create /f: ok
@@ -109,18 +111,19 @@ file /f size 1024 links 1
 block 0 1024xbb
 file /g size 1024 links 1
 block 0 1024xcc
-";
-
-const WAITS: &str = "\
+",
+    ),
+    // It waits for the transaction that made the file.
+    (
+        "\
 volume inodes 32 zones 64 journal 128
 thread 1
 create /f
 fdatabarrier /f
 events
 call 1 x 3
-";
-
-const WAITS_PRINTS: &str = "\
+",
+        "\
 steps 0
 requests 0
 1 create /f: ok
@@ -128,12 +131,8 @@ thread 1: 1 of 2 waiting commit 1
 closed 0
 found 0
 dir /
-";
-
-const ROWS: [(&str, &str); 3] = [
-    (FIRST_VERSION, FIRST_VERSION_PRINTS),
-    (LAST_VERSION, LAST_VERSION_PRINTS),
-    (WAITS, WAITS_PRINTS),
+",
+    ),
 ];
 
 // Each script of these rows prints what stands beside it.

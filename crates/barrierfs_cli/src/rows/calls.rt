@@ -1,13 +1,15 @@
 //! Replies of calls, and scripts that are refused.
-use crate::tests::{expect_refusals, expect_replays};
+use crate::tests::expect_replays;
 use script_grammar::ScriptKind;
 use std::alloc::Global;
 use std::process::Abort;
 
-// Replies of calls that need no device: the last block of a file, names and kinds, a queue, a session and a
-// transaction that are full. The two ends of the last: the eleventh directory waits, and is made once the transaction
-// is closed.
-const LAST_BLOCK: &str = "\
+static ROWS: [(&str, &str); 10] = [
+    // Replies of calls that need no device: the last block of a file, names and kinds, a queue, a session and a
+    // transaction that are full. The two ends of the last: the eleventh directory waits, and is made once the transaction
+    // is closed.
+    (
+        "\
 volume inodes 32 zones 64 journal 128
 thread 1
 create /f
@@ -16,9 +18,8 @@ write /f 268966912 1 aa
 stat /f
 events
 call 1 x 4
-";
-
-const LAST_BLOCK_PRINTS: &str = "\
+",
+        "\
 steps 0
 requests 0
 1 create /f: ok
@@ -29,9 +30,11 @@ thread 1: 4 of 4
 closed 0
 found 0
 dir /
-";
-
-const NAMES: &str = "\
+",
+    ),
+    // Names and kinds.
+    (
+        "\
 volume inodes 32 zones 64 journal 128
 thread 1
 mkdir /a
@@ -67,9 +70,8 @@ call 1
 call 1
 call 1
 call 1
-";
-
-const NAMES_PRINTS: &str = "\
+",
+        "\
 steps 0
 requests 0
 1 mkdir /a: ok
@@ -92,19 +94,19 @@ thread 1: 16 of 16
 closed 0
 found 0
 dir /
-";
-
-// A name that is too long by one byte for a volume of the default width.
-const LONG_NAME: &str = "\
+",
+    ),
+    // A name that is too long by one byte for a volume of the default width.
+    (
+        "\
 volume inodes 32 zones 64 journal 128 names 30
 thread 1
 create /abcdefghijklmno
 fsync /abcdefghijklmno
 events
 round 100
-";
-
-const LONG_NAME_PRINTS: &str = "\
+",
+        "\
 steps 13
 requests 7
 1 create /abcdefghijklmno: ok
@@ -114,10 +116,11 @@ closed 1
 found 1
 dir /
 file /abcdefghijklmno size 0 links 1
-";
-
-// A second name that moves, once the first one is gone.
-const LINKS: &str = "\
+",
+    ),
+    // A second name that moves, once the first one is gone.
+    (
+        "\
 volume inodes 32 zones 64 journal 128
 thread 1
 create /a
@@ -127,9 +130,8 @@ unlink /a
 stat /c
 events
 call 1 x 5
-";
-
-const LINKS_PRINTS: &str = "\
+",
+        "\
 steps 0
 requests 0
 1 create /a: ok
@@ -141,10 +143,11 @@ thread 1: 5 of 5
 closed 0
 found 0
 dir /
-";
-
-// Refusals of each call, the first one told where two would do.
-const REFUSALS: &str = "\
+",
+    ),
+    // Refusals of each call, the first one told where two would do.
+    (
+        "\
 volume inodes 32 zones 64 journal 128
 thread 1
 mkdir /d
@@ -191,9 +194,8 @@ fdatabarrier /abcdefghijklmno
 stat /g
 events
 call 1 x 42
-";
-
-const REFUSALS_PRINTS: &str = "\
+",
+        "\
 steps 0
 requests 0
 1 mkdir /d: ok
@@ -242,11 +244,12 @@ thread 1: 42 of 42
 closed 0
 found 0
 dir /
-";
-
-// Renames that are refused, the first cause told where two would do, and renames: of one name to itself, over a file, into a
-// directory, and of a directory.
-const RENAMES: &str = "\
+",
+    ),
+    // Renames that are refused, the first cause told where two would do, and renames: of one name to itself, over a file, into a
+    // directory, and of a directory.
+    (
+        "\
 volume inodes 32 zones 64 journal 128
 thread 1
 mkdir /d
@@ -279,9 +282,8 @@ list /e
 stat /e/h
 events
 call 1 x 28
-";
-
-const RENAMES_PRINTS: &str = "\
+",
+        "\
 steps 0
 requests 0
 1 mkdir /d: ok
@@ -316,9 +318,11 @@ thread 1: 28 of 28
 closed 0
 found 0
 dir /
-";
-
-const FULL_QUEUE: &str = "\
+",
+    ),
+    // A queue that is full.
+    (
+        "\
 volume inodes 32 zones 64 journal 128
 queue 1
 thread 1
@@ -327,9 +331,8 @@ write /f 0 2048 aa
 fbarrier /f
 events
 call 1 x 5
-";
-
-const FULL_QUEUE_PRINTS: &str = "\
+",
+        "\
 steps 0
 requests 1
 1 create /f: ok
@@ -338,9 +341,11 @@ thread 1: 2 of 3 sending
 closed 0
 found 0
 dir /
-";
-
-const FULL_SESSION: &str = "\
+",
+    ),
+    // A session that is full.
+    (
+        "\
 volume inodes 32 zones 64 journal 128
 limit 1
 thread 1
@@ -349,9 +354,8 @@ write /f 0 2048 aa
 fbarrier /f
 events
 call 1 x 5
-";
-
-const FULL_SESSION_PRINTS: &str = "\
+",
+        "\
 steps 0
 requests 1
 1 create /f: ok
@@ -361,9 +365,11 @@ thread 1: 3 of 3
 closed 0
 found 0
 dir /
-";
-
-const FULL_TRANSACTION: &str = "\
+",
+    ),
+    // A transaction that is full.
+    (
+        "\
 volume inodes 32 zones 64 journal 128
 thread 1
 mkdir /a
@@ -379,9 +385,8 @@ mkdir /j
 mkdir /k
 events
 call 1 x 11
-";
-
-const FULL_TRANSACTION_PRINTS: &str = "\
+",
+        "\
 steps 0
 requests 0
 1 mkdir /a: ok
@@ -398,9 +403,11 @@ thread 1: 10 of 11
 closed 0
 found 0
 dir /
-";
-
-const NEXT_TRANSACTION: &str = "\
+",
+    ),
+    // It is closed, and the eleventh directory is made.
+    (
+        "\
 volume inodes 32 zones 64 journal 128
 thread 1
 mkdir /a
@@ -418,9 +425,8 @@ events
 call 1 x 11
 commit x 19
 call 1
-";
-
-const NEXT_TRANSACTION_PRINTS: &str = "\
+",
+        "\
 steps 0
 requests 17
 1 mkdir /a: ok
@@ -438,19 +444,8 @@ thread 1: 11 of 11
 closed 1
 found 0
 dir /
-";
-
-const ROWS: [(&str, &str); 10] = [
-    (LAST_BLOCK, LAST_BLOCK_PRINTS),
-    (NAMES, NAMES_PRINTS),
-    (LONG_NAME, LONG_NAME_PRINTS),
-    (LINKS, LINKS_PRINTS),
-    (REFUSALS, REFUSALS_PRINTS),
-    (RENAMES, RENAMES_PRINTS),
-    (FULL_QUEUE, FULL_QUEUE_PRINTS),
-    (FULL_SESSION, FULL_SESSION_PRINTS),
-    (FULL_TRANSACTION, FULL_TRANSACTION_PRINTS),
-    (NEXT_TRANSACTION, NEXT_TRANSACTION_PRINTS),
+",
+    ),
 ];
 
 // Each script of these rows prints what stands beside it.
@@ -459,7 +454,7 @@ pub fn expect_rows(rt: &impl Abort, alloc: Global) {
 }
 
 // Scripts that are refused, with the line and the kind of their fault.
-const REFUSED: [(&str, u32, ScriptKind); 8] = [
+pub static REFUSED: [(&str, u32, ScriptKind); 8] = [
     (
         "volume inodes 32 zones 64 journal 128\n",
         2,
@@ -501,8 +496,3 @@ const REFUSED: [(&str, u32, ScriptKind); 8] = [
         ScriptKind::Word,
     ),
 ];
-
-#[test]
-fn refuses_what_is_no_volume_script(rt: HostRuntime) {
-    expect_refusals(&rt, rt.alloc(), &["replay"], &REFUSED);
-}

@@ -3,9 +3,48 @@ use crate::tests::{expect_replay, expect_replays};
 use std::alloc::{AllocError, Global};
 use std::process::Abort;
 
-// A barrier that waits for no device: the tree is there only once the last block of its transaction is on the medium.
-// Then two transactions that change one block: the second waits for the first.
-const SUBMITTED: &str = "\
+static ROWS: [(&str, &str); 6] = [
+    // A call that waited while a transaction was closed is asked anew once the volume has changed: its directory is gone then. The
+    // requests are two pages, superblock, descriptor, five bodies and the commit block.
+    (
+        "\
+volume inodes 32 zones 64 journal 128
+thread 1
+mkdir /d
+create /f
+write /f 0 2048 61
+fbarrier /d
+rmdir /d
+thread 2
+create /d/x
+events
+call 1 x 5
+commit
+call 2
+commit x 20
+call 1 x 2
+call 2
+",
+        "\
+steps 0
+requests 10
+1 mkdir /d: ok
+1 create /f: ok
+1 write /f 0 2048 61: ok
+1 fbarrier /d: ok
+1 rmdir /d: ok
+2 create /d/x: not found
+thread 1: 5 of 5
+thread 2: 1 of 1
+closed 1
+found 0
+dir /
+",
+    ),
+    // A barrier that waits for no device: the tree is there only once the last block of its transaction is on the medium.
+    // Then two transactions that change one block: the second waits for the first.
+    (
+        "\
 volume inodes 32 zones 64 journal 128
 thread 1
 mkdir /a
@@ -16,9 +55,8 @@ events
 call 1 x 6
 commit x 10
 call 1
-";
-
-const SUBMITTED_PRINTS: &str = "\
+",
+        "\
 steps 0
 requests 9
 1 mkdir /a: ok
@@ -29,9 +67,11 @@ thread 1: 4 of 4
 closed 1
 found 0
 dir /
-";
-
-const PERSISTED: &str = "\
+",
+    ),
+    // All is on the medium.
+    (
+        "\
 volume inodes 32 zones 64 journal 128
 thread 1
 mkdir /a
@@ -49,9 +89,8 @@ dispatch 0
 receive x 9
 transfer 0 x 9
 persist 0 x 9
-";
-
-const PERSISTED_PRINTS: &str = "\
+",
+        "\
 steps 18
 requests 9
 1 mkdir /a: ok
@@ -65,9 +104,11 @@ dir /
 dir /a
 file /a/f size 3 links 1
 block 0 3x61
-";
-
-const ALL_BUT_ONE: &str = "\
+",
+    ),
+    // All but the last block is.
+    (
+        "\
 volume inodes 32 zones 64 journal 128
 thread 1
 mkdir /a
@@ -85,9 +126,8 @@ dispatch 0
 receive x 9
 transfer 0 x 9
 persist 0 x 8
-";
-
-const ALL_BUT_ONE_PRINTS: &str = "\
+",
+        "\
 steps 17
 requests 9
 1 mkdir /a: ok
@@ -98,9 +138,11 @@ thread 1: 4 of 4
 closed 1
 found 0
 dir /
-";
-
-const CONFLICT: &str = "\
+",
+    ),
+    // The second of two transactions waits.
+    (
+        "\
 volume inodes 32 zones 64 journal 128
 thread 1
 mkdir /a
@@ -112,9 +154,8 @@ call 1 x 3
 commit x 10
 call 1 x 4
 commit x 5
-";
-
-const CONFLICT_PRINTS: &str = "\
+",
+        "\
 steps 0
 requests 8
 1 mkdir /a: ok
@@ -124,9 +165,11 @@ thread 1: 3 of 4 waiting conflict 2 1
 closed 1
 found 0
 dir /
-";
-
-const CONFLICT_ENDS: &str = "\
+",
+    ),
+    // It goes on behind the first.
+    (
+        "\
 volume inodes 32 zones 64 journal 128
 thread 1
 mkdir /a
@@ -140,9 +183,8 @@ call 1 x 4
 commit x 5
 back 100
 call 1
-";
-
-const CONFLICT_ENDS_PRINTS: &str = "\
+",
+        "\
 steps 30
 requests 15
 1 mkdir /a: ok
@@ -155,52 +197,8 @@ found 2
 dir /
 dir /a
 dir /b
-";
-
-// A call that waited while a transaction was closed is asked anew once the volume has changed: its directory is gone then. The
-// requests are two pages, superblock, descriptor, five bodies and the commit block.
-const ASKED_ANEW: &str = "\
-volume inodes 32 zones 64 journal 128
-thread 1
-mkdir /d
-create /f
-write /f 0 2048 61
-fbarrier /d
-rmdir /d
-thread 2
-create /d/x
-events
-call 1 x 5
-commit
-call 2
-commit x 20
-call 1 x 2
-call 2
-";
-
-const ASKED_ANEW_PRINTS: &str = "\
-steps 0
-requests 10
-1 mkdir /d: ok
-1 create /f: ok
-1 write /f 0 2048 61: ok
-1 fbarrier /d: ok
-1 rmdir /d: ok
-2 create /d/x: not found
-thread 1: 5 of 5
-thread 2: 1 of 1
-closed 1
-found 0
-dir /
-";
-
-const ROWS: [(&str, &str); 6] = [
-    (ASKED_ANEW, ASKED_ANEW_PRINTS),
-    (SUBMITTED, SUBMITTED_PRINTS),
-    (PERSISTED, PERSISTED_PRINTS),
-    (ALL_BUT_ONE, ALL_BUT_ONE_PRINTS),
-    (CONFLICT, CONFLICT_PRINTS),
-    (CONFLICT_ENDS, CONFLICT_ENDS_PRINTS),
+",
+    ),
 ];
 
 // Each script of these rows prints what stands beside it.

@@ -3,8 +3,10 @@ use crate::tests::expect_replays;
 use std::alloc::Global;
 use std::process::Abort;
 
-// The first request that is transferred fails: the page. The host hears of it in the next round, and submits nothing more.
-const FIRST_REQUEST: &str = "\
+static ROWS: [(&str, &str); 6] = [
+    // The first request that is transferred fails: the page. The host hears of it in the next round, and submits nothing more.
+    (
+        "\
 volume inodes 32 zones 64 journal 128
 fail 1
 thread 1
@@ -14,9 +16,8 @@ write /a/f 0 3 61
 fsync /a/f
 events
 round 100
-";
-
-const FIRST_REQUEST_PRINTS: &str = "\
+",
+        "\
 steps 1
 requests 1
 1 mkdir /a: ok
@@ -27,10 +28,38 @@ thread 1: 4 of 4
 closed 0
 found 0
 dir /
-";
-
-// The flush fails, with all before it on the medium: the transaction is there, and the call that asked for it does not know.
-const FLUSH: &str = "\
+",
+    ),
+    // Two requests are transferred and persisted, the third fails. Request 3, which was submitted before the host heard of it, gets
+    // nowhere. Behind the failure each call that does not only read ends so.
+    (
+        "\
+volume inodes 32 zones 64 journal 128
+fail 3
+thread 1
+create /f
+write /f 0 1024 aa
+fsync /f
+mkdir /d
+events
+round 100
+",
+        "\
+steps 5
+requests 4
+1 create /f: ok
+1 write /f 0 1024 aa: ok
+1 fsync /f: read-only 2
+1 mkdir /d: read-only 2
+thread 1: 4 of 4
+closed 1
+found 0
+dir /
+",
+    ),
+    // The flush fails, with all before it on the medium: the transaction is there, and the call that asked for it does not know.
+    (
+        "\
 volume inodes 32 zones 64 journal 128
 fail 10
 thread 1
@@ -40,9 +69,8 @@ write /a/f 0 3 61
 fsync /a/f
 events
 round 100
-";
-
-const FLUSH_PRINTS: &str = "\
+",
+        "\
 steps 19
 requests 10
 1 mkdir /a: ok
@@ -56,37 +84,41 @@ dir /
 dir /a
 file /a/f size 3 links 1
 block 0 3x61
-";
-
-// Two requests are transferred and persisted, the third fails. Request 3, which was submitted before the host heard of it, gets
-// nowhere. Behind the failure each call that does not only read ends so.
-const THIRD_REQUEST: &str = "\
+",
+    ),
+    // The flash log fails too: the flush, once nine puts were moved, programmed and folded.
+    (
+        "\
 volume inodes 32 zones 64 journal 128
-fail 3
+flash 3
+fail 10
 thread 1
-create /f
-write /f 0 1024 aa
-fsync /f
-mkdir /d
+mkdir /a
+create /a/f
+write /a/f 0 3 61
+fsync /a/f
 events
 round 100
-";
-
-const THIRD_REQUEST_PRINTS: &str = "\
-steps 5
-requests 4
-1 create /f: ok
-1 write /f 0 1024 aa: ok
-1 fsync /f: read-only 2
-1 mkdir /d: read-only 2
+",
+        "\
+steps 28
+requests 10
+1 mkdir /a: ok
+1 create /a/f: ok
+1 write /a/f 0 3 61: ok
+1 fsync /a/f: read-only 9
 thread 1: 4 of 4
 closed 1
-found 0
+found 1
 dir /
-";
-
-// A call that only reads is answered behind a failure, by what the host has in memory.
-const READS_ON: &str = "\
+dir /a
+file /a/f size 3 links 1
+block 0 3x61
+",
+    ),
+    // A call that only reads is answered behind a failure, by what the host has in memory.
+    (
+        "\
 volume inodes 32 zones 64 journal 128
 fail 1
 thread 1
@@ -98,9 +130,8 @@ unlink /f
 stat /f
 events
 round 100
-";
-
-const READS_ON_PRINTS: &str = "\
+",
+        "\
 steps 1
 requests 1
 1 create /f: ok
@@ -113,10 +144,11 @@ thread 1: 6 of 6
 closed 0
 found 0
 dir /
-";
-
-// The power goes off at the step of the failure. The host hears of the failure first, and then of the power.
-const FAILS_AND_GOES_OFF: &str = "\
+",
+    ),
+    // The power goes off at the step of the failure. The host hears of the failure first, and then of the power.
+    (
+        "\
 volume inodes 32 zones 64 journal 128
 cut 1
 fail 1
@@ -138,9 +170,8 @@ call 1
 answer
 flush
 call 1 x 2
-";
-
-const FAILS_AND_GOES_OFF_PRINTS: &str = "\
+",
+        "\
 steps 1
 requests 1
 1 create /f: ok
@@ -152,45 +183,8 @@ thread 1: 5 of 5
 closed 0
 found 0
 dir /
-";
-
-// The flash log fails too: the flush, once nine puts were moved, programmed and folded.
-const FLASH_FLUSH: &str = "\
-volume inodes 32 zones 64 journal 128
-flash 3
-fail 10
-thread 1
-mkdir /a
-create /a/f
-write /a/f 0 3 61
-fsync /a/f
-events
-round 100
-";
-
-const FLASH_FLUSH_PRINTS: &str = "\
-steps 28
-requests 10
-1 mkdir /a: ok
-1 create /a/f: ok
-1 write /a/f 0 3 61: ok
-1 fsync /a/f: read-only 9
-thread 1: 4 of 4
-closed 1
-found 1
-dir /
-dir /a
-file /a/f size 3 links 1
-block 0 3x61
-";
-
-const ROWS: [(&str, &str); 6] = [
-    (FIRST_REQUEST, FIRST_REQUEST_PRINTS),
-    (THIRD_REQUEST, THIRD_REQUEST_PRINTS),
-    (FLUSH, FLUSH_PRINTS),
-    (FLASH_FLUSH, FLASH_FLUSH_PRINTS),
-    (READS_ON, READS_ON_PRINTS),
-    (FAILS_AND_GOES_OFF, FAILS_AND_GOES_OFF_PRINTS),
+",
+    ),
 ];
 
 // Each script of these rows prints what stands beside it.

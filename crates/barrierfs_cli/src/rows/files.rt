@@ -3,10 +3,12 @@ use crate::tests::{expect_replay, expect_replays};
 use std::alloc::{AllocError, Global};
 use std::process::Abort;
 
-// A volume of 4 inodes and 58 zones of data. Files take all of either, are refused the next, and go again; then one file
-// has all the zones. What was freed is taken again only once its transaction has its commit block in the queue: the
-// transactions are 8 requests, of them a superblock and a revoke, and 7, and then comes the flush.
-const FULL_VOLUME: &str = "\
+static ROWS: [(&str, &str); 2] = [
+    // A volume of 4 inodes and 58 zones of data. Files take all of either, are refused the next, and go again; then one file
+    // has all the zones. What was freed is taken again only once its transaction has its commit block in the queue: the
+    // transactions are 8 requests, of them a superblock and a revoke, and 7, and then comes the flush.
+    (
+        "\
 volume inodes 4 zones 64 journal 128
 thread 1
 create /a
@@ -29,9 +31,8 @@ write /z 0 58368 cc
 write /z 58368 1 cc
 events
 round 2000
-";
-
-const FULL_VOLUME_PRINTS: &str = "\
+",
+        "\
 steps 31
 requests 16
 1 create /a: ok
@@ -56,12 +57,13 @@ thread 1: 18 of 18
 closed 2
 found 2
 dir /
-";
-
-// A file with holes whose blocks stand in the inode, in its indirect zone and in two groups of its doubly indirect one, of
-// which a cut frees the second; cuts within a block, upwards and to nothing. The transaction has five pages, and the log a
-// superblock, a revoke, a descriptor, seven bodies and the commit block.
-const HOLES: &str = "\
+",
+    ),
+    // A file with holes whose blocks stand in the inode, in its indirect zone and in two groups of its doubly indirect one, of
+    // which a cut frees the second; cuts within a block, upwards and to nothing. The transaction has five pages, and the log a
+    // superblock, a revoke, a descriptor, seven bodies and the commit block.
+    (
+        "\
 volume inodes 32 zones 64 journal 128
 thread 1
 create /f
@@ -78,9 +80,8 @@ truncate /f 0
 stat /f
 events
 round 200
-";
-
-const HOLES_PRINTS: &str = "\
+",
+        "\
 steps 33
 requests 17
 1 create /f: ok
@@ -105,9 +106,9 @@ block 6 1024x61
 block 7 832x61+192x00
 block 518 568x00+456x62
 block 519 44x62+500x00
-";
-
-const ROWS: [(&str, &str); 2] = [(FULL_VOLUME, FULL_VOLUME_PRINTS), (HOLES, HOLES_PRINTS)];
+",
+    ),
+];
 
 // Each script of these rows prints what stands beside it.
 pub fn expect_rows(rt: &impl Abort, alloc: Global) {

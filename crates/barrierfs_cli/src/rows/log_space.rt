@@ -4,9 +4,28 @@ use blk_base::NoMemory;
 use std::alloc::Global;
 use std::process::Abort;
 
-// A zone that was freed is taken again only once the transaction that freed it has its commit block in the queue; a
-// block that was logged, freed and taken for data is not written over by its old copy in the log.
-const FREED: &str = "\
+const REVOKED_PRINTS: &str = "\
+steps 42
+requests 22
+1 mkdir /d: ok
+1 fsync /d: ok
+1 rmdir /d: ok
+1 create /f: ok
+1 write /f 0 1024 ee: ok
+1 fsync /f: ok
+thread 1: 6 of 6
+closed 3
+found 3
+dir /
+file /f size 1024 links 1
+block 0 1024xee
+";
+
+static ROWS: [(&str, &str); 5] = [
+    // A zone that was freed is taken again only once the transaction that freed it has its commit block in the queue; a
+    // block that was logged, freed and taken for data is not written over by its old copy in the log.
+    (
+        "\
 volume inodes 32 zones 7 journal 128
 thread 1
 create /a
@@ -32,9 +51,8 @@ receive x 7
 transfer 0 x 7
 persist 0 x 5
 persist 1
-";
-
-const FREED_PRINTS: &str = "\
+",
+        "\
 steps 29
 requests 16
 1 create /a: ok
@@ -50,9 +68,11 @@ dir /
 file /a size 1024 links 1
 block 0 1024xaa
 file /b size 0 links 1
-";
-
-const WAITS: &str = "\
+",
+    ),
+    // A write waits for a zone.
+    (
+        "\
 volume inodes 32 zones 7 journal 128
 thread 1
 create /a
@@ -65,9 +85,8 @@ events
 call 1 x 6
 back 100
 call 1 x 3
-";
-
-const WAITS_PRINTS: &str = "\
+",
+        "\
 steps 17
 requests 9
 1 create /a: ok
@@ -82,9 +101,11 @@ dir /
 file /a size 1024 links 1
 block 0 1024xaa
 file /b size 0 links 1
-";
-
-const REVOKED: &str = "\
+",
+    ),
+    // A block is logged, freed, and taken for data.
+    (
+        "\
 volume inodes 32 zones 7 journal 128
 thread 1
 mkdir /d
@@ -95,10 +116,12 @@ write /f 0 1024 ee
 fsync /f
 events
 round 200
-";
-
-// The same in a journal whose block numbers have 64 bits.
-const REVOKED_WIDE: &str = "\
+",
+        REVOKED_PRINTS,
+    ),
+    // The same in a journal whose block numbers have 64 bits.
+    (
+        "\
 volume inodes 32 zones 7 journal 128 tags 64
 thread 1
 mkdir /d
@@ -109,30 +132,46 @@ write /f 0 1024 ee
 fsync /f
 events
 round 200
-";
-
-const REVOKED_PRINTS: &str = "\
-steps 42
-requests 22
-1 mkdir /d: ok
-1 fsync /d: ok
-1 rmdir /d: ok
+",
+        REVOKED_PRINTS,
+    ),
+    // A block of zone numbers is logged, cut off, and taken for data: its old copy in the log is not written over that.
+    (
+        "\
+volume inodes 32 zones 8 journal 128
+thread 1
+create /f
+write /f 7168 1024 aa
+fsync /f
+truncate /f 0
+create /g
+fsync /g
+write /g 0 2048 ee
+fsync /g
+events
+round 200
+",
+        "\
+steps 47
+requests 25
 1 create /f: ok
-1 write /f 0 1024 ee: ok
+1 write /f 7168 1024 aa: ok
 1 fsync /f: ok
-thread 1: 6 of 6
+1 truncate /f 0: ok
+1 create /g: ok
+1 fsync /g: ok
+1 write /g 0 2048 ee: ok
+1 fsync /g: ok
+thread 1: 8 of 8
 closed 3
 found 3
 dir /
-file /f size 1024 links 1
+file /f size 0 links 1
+file /g size 2048 links 1
 block 0 1024xee
-";
-
-const ROWS: [(&str, &str); 4] = [
-    (FREED, FREED_PRINTS),
-    (WAITS, WAITS_PRINTS),
-    (REVOKED, REVOKED_PRINTS),
-    (REVOKED_WIDE, REVOKED_PRINTS),
+block 1 1024xee
+",
+    ),
 ];
 
 // Each script of these rows prints what stands beside it.

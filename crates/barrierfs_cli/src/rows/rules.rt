@@ -3,9 +3,11 @@ use crate::tests::expect_replays;
 use std::alloc::Global;
 use std::process::Abort;
 
-// A write over the front of a longer file keeps its size. What was cut reads as zeros when the file grows again. A directory
-// that goes takes a link of its parent. Two names of one file stay where one is renamed to the other.
-const SIZES: &str = "\
+static ROWS: [(&str, &str); 7] = [
+    // A write over the front of a longer file keeps its size. What was cut reads as zeros when the file grows again. A directory
+    // that goes takes a link of its parent. Two names of one file stay where one is renamed to the other.
+    (
+        "\
 volume inodes 32 zones 40 journal 128
 thread 1
 create /f
@@ -24,9 +26,8 @@ rename /f /g
 list /
 events
 call 1 x 20
-";
-
-const SIZES_PRINTS: &str = "\
+",
+        "\
 steps 0
 requests 0
 1 create /f: ok
@@ -47,10 +48,11 @@ thread 1: 14 of 14
 closed 0
 found 0
 dir /
-";
-
-// A block behind 519 blocks needs three zones, its own and two of numbers; the one before it two.
-const NUMBERS: &str = "\
+",
+    ),
+    // A block behind 519 blocks needs three zones, its own and two of numbers; the one before it two.
+    (
+        "\
 volume inodes 32 zones 8 journal 128
 thread 1
 create /f
@@ -58,9 +60,8 @@ write /f 531456 1 61
 write /f 530432 1 61
 events
 call 1 x 20
-";
-
-const NUMBERS_PRINTS: &str = "\
+",
+        "\
 steps 0
 requests 0
 1 create /f: ok
@@ -70,11 +71,12 @@ thread 1: 3 of 3
 closed 0
 found 0
 dir /
-";
-
-// With names of 30 bytes a block has 32 slots of 32 bytes. A rename in a full directory needs no room; one name more takes the
-// last zone.
-const LONG_SLOTS: &str = "\
+",
+    ),
+    // With names of 30 bytes a block has 32 slots of 32 bytes. A rename in a full directory needs no room; one name more takes the
+    // last zone.
+    (
+        "\
 volume inodes 64 zones 9 journal 128 names 30
 thread 1
 mkdir /d
@@ -113,9 +115,8 @@ link /f /g29
 write /f 0 1 61
 events
 call 1 x 50
-";
-
-const LONG_SLOTS_PRINTS: &str = "\
+",
+        "\
 steps 0
 requests 0
 1 mkdir /d: ok
@@ -156,10 +157,11 @@ thread 1: 34 of 34
 closed 0
 found 0
 dir /
-";
-
-// A call that changes the size alone changes the file, so `fdatasync` waits for a transaction; one more link does not.
-const SIZE_ALONE: &str = "\
+",
+    ),
+    // A call that changes the size alone changes the file, so `fdatasync` waits for a transaction; one more link does not.
+    (
+        "\
 volume inodes 32 zones 40 journal 128
 thread 1
 create /f
@@ -172,9 +174,8 @@ fdatasync /f
 events
 call 1 x 3
 round 60
-";
-
-const SIZE_ALONE_PRINTS: &str = "\
+",
+        "\
 steps 26
 requests 14
 1 create /f: ok
@@ -190,10 +191,11 @@ found 2
 dir /
 file /f size 20 links 1
 block 0 10x61+10x00
-";
-
-// Without a line `depth` the device has room for 32 commands.
-const DEFAULT_DEPTH: &str = "\
+",
+    ),
+    // Without a line `depth` the device has room for 32 commands.
+    (
+        "\
 device 40
 put 0 11 free
 put 1 11 free
@@ -232,9 +234,8 @@ put 33 11 free
 events
 receive x 34
 transfer 0 x 40
-";
-
-const DEFAULT_DEPTH_PRINTS: &str = "\
+",
+        "\
 steps 32
 block 0 00 -
 block 1 00 -
@@ -276,10 +277,11 @@ block 36 00 -
 block 37 00 -
 block 38 00 -
 block 39 00 -
-";
-
-// Without a line `queue` each queue has 32 places.
-const DEFAULT_QUEUE: &str = "\
+",
+    ),
+    // Without a line `queue` each queue has 32 places.
+    (
+        "\
 blocks 40
 put 0 11 free
 put 1 11 free
@@ -321,9 +323,8 @@ accept x 40
 dispatch 0 x 40
 receive x 40
 transfer 0 x 40
-";
-
-const DEFAULT_QUEUE_PRINTS: &str = "\
+",
+        "\
 steps 32
 block 0 00 -
 block 1 00 -
@@ -365,10 +366,11 @@ block 36 00 -
 block 37 00 -
 block 38 00 -
 block 39 00 -
-";
-
-// A flush leaves the elevator where it is.
-const FLUSH_HEAD: &str = "\
+",
+    ),
+    // A flush leaves the elevator where it is.
+    (
+        "\
 blocks 40
 elevator
 put 20 11 ordered
@@ -388,9 +390,8 @@ persist 0
 transfer 0
 transfer 0
 persist 0
-";
-
-const FLUSH_HEAD_PRINTS: &str = "\
+",
+        "\
 steps 5
 block 0 00 -
 block 1 00 -
@@ -432,16 +433,8 @@ block 36 00 -
 block 37 00 -
 block 38 00 -
 block 39 00 -
-";
-
-const ROWS: [(&str, &str); 7] = [
-    (SIZES, SIZES_PRINTS),
-    (NUMBERS, NUMBERS_PRINTS),
-    (LONG_SLOTS, LONG_SLOTS_PRINTS),
-    (SIZE_ALONE, SIZE_ALONE_PRINTS),
-    (DEFAULT_DEPTH, DEFAULT_DEPTH_PRINTS),
-    (DEFAULT_QUEUE, DEFAULT_QUEUE_PRINTS),
-    (FLUSH_HEAD, FLUSH_HEAD_PRINTS),
+",
+    ),
 ];
 
 // Each script of these rows prints what stands beside it.

@@ -60,7 +60,12 @@ file /a/f size 3 links 1
 block 0 3x61
 ";
 
-const DOWN: &str = "\
+static ROWS: [(&str, &str); 3] = [
+    (SYNC, SYNC_PRINTS),
+    (FLASH, FLASH_PRINTS),
+    // The power is off at once.
+    (
+        "\
 volume inodes 32 zones 64 journal 128
 cut 0
 thread 1
@@ -68,9 +73,8 @@ mkdir /a
 fsync /a
 events
 round 50
-";
-
-const DOWN_PRINTS: &str = "\
+",
+        "\
 steps 0
 requests 0
 1 mkdir /a: ok
@@ -79,12 +83,8 @@ thread 1: 2 of 2
 closed 0
 found 0
 dir /
-";
-
-const ROWS: [(&str, &str); 3] = [
-    (SYNC, SYNC_PRINTS),
-    (FLASH, FLASH_PRINTS),
-    (DOWN, DOWN_PRINTS),
+",
+    ),
 ];
 
 // Each script of these rows prints what stands beside it.
@@ -140,7 +140,7 @@ closed {closed}
 }
 
 // How many requests were submitted where the power goes off after so many steps: none, one, and so on.
-const SUBMITTED: [u32; 20] = [
+static SUBMITTED: [u32; 20] = [
     0, 1, 1, 4, 4, 5, 5, 6, 6, 7, 7, 8, 8, 9, 9, 9, 9, 10, 10, 10,
 ];
 
