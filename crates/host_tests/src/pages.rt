@@ -9,6 +9,8 @@ enum Step {
     // The page's block, the two bytes of its body and its version, and whether there was room.
     Set(u32, u8, u8, u64, bool),
     Drop,
+    // The page was sent so.
+    Mark(PageState),
     Body(u8, u8),
     Block(u32),
     Version(u64),
@@ -19,10 +21,12 @@ enum Step {
     Unsent(u64, u32),
     // The unsent page of this file from this one on.
     OfFile(u32),
+    // The first unsent page of this file.
+    FirstOf(u32),
 }
 
 // Pages by their file and their index there. The cache has room for pages 9 of file 2, and 0 and 3 of file 7, and no other.
-static ROWS: [(&str, &[(u64, u32, Step)]); 2] = [
+static ROWS: [(&str, &[(u64, u32, Step)]); 3] = [
     // Page 0 of file 7 goes, and page 1 comes in its place.
     (
         "pages in order",
@@ -60,6 +64,22 @@ static ROWS: [(&str, &[(u64, u32, Step)]); 2] = [
             (2, 9, Step::Body(7, 7)),
         ],
     ),
+    // A page that was sent without order is next still. One that goes leaves the bytes of the others, and is no longer dirty.
+    (
+        "what was sent and what goes",
+        &[
+            (7, 0, Step::Set(40, 1, 1, 1, true)),
+            (2, 9, Step::Set(41, 2, 3, 2, true)),
+            (7, 3, Step::Set(42, 3, 3, 3, true)),
+            (7, 3, Step::Mark(PageState::Loose)),
+            (7, 1, Step::OfFile(3)),
+            (7, 0, Step::FirstOf(0)),
+            (7, 3, Step::Drop),
+            (2, 9, Step::Body(2, 3)),
+            (2, 9, Step::Drop),
+            (0, 0, Step::Dirty(7, 0)),
+        ],
+    ),
 ];
 
 fn body_of(byte: u8, last: u8) -> Block {
@@ -75,6 +95,22 @@ fn has_body(pages: &Pages, birth: u64, index: u32, wanted: &Block) -> bool {
     }
 }
 
+// Notes how the page was sent, and tells whether it was there.
+fn is_marked(pages: &mut Pages, birth: u64, index: u32, state: PageState) -> bool {
+    if pages.state(birth, index).is_none() {
+        return false;
+    }
+    pages.mark(birth, index, state);
+    true
+}
+
+fn is_first(pages: &Pages, birth: u64, index: u32) -> bool {
+    match pages.unsent_of(&[birth]) {
+        Some(page) => page.index == index,
+        None => false,
+    }
+}
+
 // Does the step of a page, and tells whether it came as wanted.
 fn does(pages: &mut Pages, birth: u64, index: u32, step: Step) -> bool {
     match step {
@@ -86,6 +122,7 @@ fn does(pages: &mut Pages, birth: u64, index: u32, step: Step) -> bool {
             pages.drop_page(birth, index);
             true
         }
+        Step::Mark(state) => is_marked(pages, birth, index, state),
         Step::Body(byte, last) => has_body(pages, birth, index, &body_of(byte, last)),
         Step::Block(block) => pages.block(birth, index) == Some(block),
         Step::Version(version) => pages.version(birth, index) == Some(version),
@@ -93,6 +130,7 @@ fn does(pages: &mut Pages, birth: u64, index: u32, step: Step) -> bool {
         Step::Dirty(file, page) => pages.dirty(index) == Some((file, page)),
         Step::Unsent(file, page) => pages.next_unsent(birth, index) == Some((file, page)),
         Step::OfFile(page) => pages.of_file(birth, index) == Some(page),
+        Step::FirstOf(page) => is_first(pages, birth, page),
     }
 }
 
