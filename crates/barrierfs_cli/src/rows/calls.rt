@@ -4,7 +4,7 @@ use script_grammar::ScriptKind;
 use std::alloc::Global;
 use std::process::Abort;
 
-static ROWS: [(&str, &str); 10] = [
+static ROWS: [(&str, &str); 11] = [
     // Replies of calls that need no device: the last block of a file, names and kinds, a queue, a session and a
     // transaction that are full. The two ends of the last: the eleventh directory waits, and is made once the transaction
     // is closed.
@@ -400,6 +400,42 @@ requests 0
 1 mkdir /i: ok
 1 mkdir /j: ok
 thread 1: 10 of 11
+closed 0
+found 0
+dir /
+",
+    ),
+    // One with tags of 64 bits needs two revoke blocks more for a call, so it has room for two bodies less.
+    (
+        "\
+volume inodes 32 zones 64 journal 128 tags 64
+thread 1
+mkdir /a
+mkdir /b
+mkdir /c
+mkdir /d
+mkdir /e
+mkdir /f
+mkdir /g
+mkdir /h
+mkdir /i
+mkdir /j
+mkdir /k
+events
+call 1 x 11
+",
+        "\
+steps 0
+requests 0
+1 mkdir /a: ok
+1 mkdir /b: ok
+1 mkdir /c: ok
+1 mkdir /d: ok
+1 mkdir /e: ok
+1 mkdir /f: ok
+1 mkdir /g: ok
+1 mkdir /h: ok
+thread 1: 8 of 11
 closed 0
 found 0
 dir /
