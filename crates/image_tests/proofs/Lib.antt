@@ -2,3 +2,4 @@ pub mod Recovering
 pub mod CallRules
 pub mod FirstZones
 pub mod RevokedBlocks
+pub mod SlotZones

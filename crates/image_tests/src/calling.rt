@@ -2,6 +2,7 @@
 ghost use Rattle.std.specs.Prelude.{◌≡◌, ◌≢◌, ◌⊎◌, ◌<◌, ◌≤◌, ℕ, ◌+◌, ◌-◌, ◌*◌, ◌/◌, ◌%◌, true, List, [], ◌∷◌, length, slice_index, Some, None, Err, codes};
 ghost use Rattle.blk_base.specs.Members.{In};
 ghost use Rattle.minix_layout.specs.declared.division.Geometry.{Geometry};
+ghost use Rattle.minix_layout.specs.declared.inode.Inode.{Inode};
 ghost use Rattle.tree_model.specs.declared.call.Call.{Call};
 ghost use Rattle.tree_model.specs.declared.call.Call.TheVariants as calls;
 ghost use Rattle.tree_model.specs.declared.call.Reply.{Reply};
@@ -20,7 +21,8 @@ ghost use Rattle.tree_model.specs.laws.Examples.{small_room, replies_to};
 ghost use Rattle.minix_tables.specs.zones.Zones.{Zones, taken};
 ghost use Rattle.volume_model.specs.declared.placed.Placed.{Placed};
 ghost use Rattle.volume_model.specs.Touched.{IsMeta};
-ghost use Rattle.volume_model.specs.Volume.{Place, indirect, double, inner};
+ghost use Rattle.volume_model.specs.Plain.{HasSlotZones};
+ghost use Rattle.volume_model.specs.Volume.{Place, block, indirect, double, inner, zone_in};
 ghost use Rattle.volume_steps.specs.Called.{FindsRoom};
 ghost use Rattle.volume_steps.specs.Calls.{called};
 ghost use Rattle.volume_steps.specs.Cuts.{cuts_nothing};
@@ -49,6 +51,13 @@ pub fn new_names_are_refused_in_order()
         at_name d.names name ≡ None → f.links ≡ 250 → outcome room tree n (calls.Link path other) ≡ Err replies.TooManyLinks }
     ensures link_slots { (room : Room) (tree : Tree) (n : ℕ) (path other : List ℕ) (from : ℕ) (f : File) (d : Directory) (name : List ℕ) → StandsAt tree path from (nodes.File f) → GoesTo tree other d name →
         at_name d.names name ≡ None → f.links ≢ 250 → HasAllSlots d → outcome room tree n (calls.Link path other) ≡ Err replies.TooBig }
+{}
+
+/// A law, which does nothing when it is called: a directory has a zone for each of its slots, that of the block in which the
+/// slot lies. A block has 64 slots with names of 14 bytes, and 32 with names of 30.
+pub fn slots_stand_in_zones()
+    ensures short { (g : Geometry) (blocks : List (List ℕ)) (i : Inode) (slots k : ℕ) → g.width ≡ 14 → HasSlotZones g blocks i slots → k < slots → zone_in blocks i (block (k / 64)) ≢ 0 }
+    ensures long { (g : Geometry) (blocks : List (List ℕ)) (i : Inode) (slots k : ℕ) → g.width ≡ 30 → HasSlotZones g blocks i slots → k < slots → zone_in blocks i (block (k / 32)) ≢ 0 }
 {}
 
 /// A law, which does nothing when it is called: of a `rename` the walk of the first path is told before the parent of
