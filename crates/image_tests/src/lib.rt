@@ -1,13 +1,11 @@
-//! Tests of what a Minix V1 volume has, part by part, and of trees and calls on them. In `calling` and
+//! Tests of what a Minix V1 volume has, part by part, and of trees. In `calling` and
 //! `recoveries` stand laws of calls, logs and recoveries in the words of the format.
 //!
-//! Stands on `minix_layout`, `minix_tables::zones`, `minix_tables::inodes`, `minix_tables::directories`, `tree_model`, `tree_calls`, `volume_ops` and
+//! Stands on `minix_layout`, `minix_tables::zones`, `minix_tables::inodes`, `minix_tables::directories`, `tree_model`, `volume_ops` and
 //! `volume_model`, and for laws on `volume_model::editing`, `volume_steps`, `journal_blocks` and `journal_replay`.
 #![tactic(auto)]
 
 pub mod calling;
-#[cfg(test)]
-mod calls_on_trees;
 #[cfg(test)]
 mod checks;
 #[cfg(test)]

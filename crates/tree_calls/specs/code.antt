@@ -1,3 +1,0 @@
--- The code's view of what a call does.
-pub mod Steps
-pub mod Sums
