@@ -7,8 +7,6 @@
 
 pub mod calling;
 #[cfg(test)]
-mod checks;
-#[cfg(test)]
 mod directory_slots;
 #[cfg(test)]
 mod file_maps;

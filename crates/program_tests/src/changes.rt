@@ -30,9 +30,10 @@ impl<T: Drop> From<AllocFailed<T>> for RowFault {
     }
 }
 
-/// The bytes of a text; where its first line is `image` those of the image, with the changes of the other lines.
+/// The bytes of a text; where its first line is `image` or `base` those of the image, with the changes of the other lines.
 pub fn changed(alloc: Global, image: &[u8], text: &str) -> Result<Vec<u8>, RowFault> {
-    let Some(lines) = text.strip_prefix("image\n") else {
+    let lines = text.strip_prefix("image\n");
+    let Some(lines) = lines.or(text.strip_prefix("base\n")) else {
         return Ok(text.as_bytes().to_vec(alloc)?);
     };
     let mut bytes = image.to_vec(alloc)?;

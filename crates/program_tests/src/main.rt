@@ -46,7 +46,7 @@ use std::thread::Threads;
 use std::{fs, io};
 
 // The files of rows.
-static FILES: [&str; 21] = [
+static FILES: [&str; 22] = [
     "wrong.txt",
     "requests.txt",
     "calls.txt",
@@ -62,6 +62,7 @@ static FILES: [&str; 21] = [
     "stores.txt",
     "workloads.txt",
     "images.txt",
+    "damaged.txt",
     "words.txt",
     "scripts-refused.txt",
     "sessions-refused.txt",

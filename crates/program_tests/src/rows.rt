@@ -3,8 +3,9 @@
 //! A row is a line `-> WORDS`, the input, a line `<- STATUS FAULT`, and the output. The words have a `|` between them, and where
 //! all is well there is no fault. `== ` begins a remark, which goes on to the next row.
 //!
-//! An input or an output that begins with the line `image` is the image that an earlier row wrote, with the changes that follow,
-//! a line each. Such an output is kept as the image then, and so is any that is written where the row says `kept`.
+//! An input or an output that begins with the line `image` is the image that was kept, with the changes that follow, a line each.
+//! Such an output is kept as the image then, and so is any that is written where the row says `kept`. An input that begins with
+//! `base` is such an image too, and is kept.
 use crate::changes::{RowFault, changed};
 use barrierfs_top::{Ended, OpenGate, Words, do_words};
 use blk_base::{MemSink, PlainSource};
@@ -36,7 +37,7 @@ impl<'a> Row<'a> {
         })
     }
 
-    fn given(&self, alloc: Global) -> Result<Words, RowFault> {
+    fn given_words(&self, alloc: Global) -> Result<Words, RowFault> {
         let mut words = Words::make(alloc);
         if !self.words.is_empty() {
             for word in self.words.split('|') {
@@ -44,6 +45,15 @@ impl<'a> Row<'a> {
             }
         }
         Ok(words)
+    }
+
+    // The input, which is kept as the image if the row says so.
+    fn given_input(&self, alloc: Global, image: &mut Vec<u8>) -> Result<Vec<u8>, RowFault> {
+        let input = changed(alloc, image, self.input)?;
+        if self.input.starts_with("base\n") {
+            keep(image, &input)?;
+        }
+        Ok(input)
     }
 
     // How the program ends on an input, and what it writes.
@@ -54,7 +64,7 @@ impl<'a> Row<'a> {
         input: &[u8],
         sink: &mut MemSink,
     ) -> Result<Ended, RowFault> {
-        let words = self.given(alloc)?;
+        let words = self.given_words(alloc)?;
         let mut source = PlainSource::new(input);
         Ok(do_words(rt, alloc, &words, &mut source, sink, &OpenGate))
     }
@@ -86,7 +96,7 @@ impl<'a> Row<'a> {
         alloc: Global,
         image: &mut Vec<u8>,
     ) -> Result<Option<String>, RowFault> {
-        let input = changed(alloc, image, self.input)?;
+        let input = self.given_input(alloc, image)?;
         let mut sink = MemSink::new(Vec::new(alloc), Vec::new(alloc));
         let ended = self.ended(rt, alloc, &input, &mut sink);
         drop(input);
@@ -106,8 +116,7 @@ impl<'a> Row<'a> {
     ) -> Result<Option<String>, RowFault> {
         let wanted = self.wants(alloc, image, end, written)?;
         if self.keeps() {
-            image.clear();
-            image.extend_from_slice(written)?;
+            keep(image, written)?;
         }
         if wanted {
             return Ok(None);
@@ -116,6 +125,11 @@ impl<'a> Row<'a> {
         let told = format!(in alloc; "{end}\n{output}")?;
         Ok(Some(told))
     }
+}
+
+fn keep(image: &mut Vec<u8>, bytes: &[u8]) -> Result<(), RowFault> {
+    image.clear();
+    Ok(image.extend_from_slice(bytes)?)
 }
 
 // The status, with the fault behind it where there is one.
