@@ -1,3 +1,0 @@
-pub mod SessionsLemmas
-pub mod TidyLemmas
-pub mod WidenedLemmas

@@ -1,0 +1,4 @@
+pub mod CoveredCalls
+pub mod Metadata
+pub mod Replies
+pub mod Versions

@@ -1,0 +1,4 @@
+pub mod CoveredLemmas
+pub mod SessionsLemmas
+pub mod TidyLemmas
+pub mod WidenedLemmas
