@@ -38,9 +38,9 @@ only h i j e t c x y =
     elim (cases_lt i j) [
       | inl lt ↦ absurd (x.last j _ lt y.earlier y.begins refl)
       | inr ge ↦ elim (cases_lt j i) [
-          | inl lt ↦ absurd (y.last i _ lt x.earlier x.begins refl)
-          | inr le ↦ omega (arith, ge, le)
-        ]
+        | inl lt ↦ absurd (y.last i _ lt x.earlier x.begins refl)
+        | inr le ↦ omega (arith, ge, le)
+      ]
     ]
 
 -- ---- the file of a call
@@ -91,7 +91,7 @@ module _ (s : SessionScript) (end : EndState) (r : SessionReport) (is : Headline
   pub metadata : covers_data_alone c ≡ false → (v : ℕ) × (b ≤ v) × AreAlike (tree_at (opening_of s) end.host v) is.prefix.tree
   metadata covers =
       let found : b ≤ (told_by s end).cut r.found =
-          shows.metadata b (ap (λ k. not (is_data k)) w.kind ∙ ap not (data_alone c ∙ covers), (let number = w.number in let at = place in omega (arith, number, at))) in
+      shows.metadata b (ap (λ k. not (is_data k)) w.kind ∙ ap not (data_alone c ∙ covers), (let number = w.number in let at = place in omega (arith, number, at))) in
       ((told_by s end).cut r.found, found, is.prefix.alike)
 
   -- the begun call is on the file that this call is on

@@ -35,11 +35,15 @@ span cut n (suc K) first some low =
       | inl above ↦ (K, above, omega arith, λ m behind within. let same : suc K ≡ m = omega (arith, behind, within) in subst (λ x. n ≤ cut x) same low)
       | inr below ↦
           let x = span cut n K first some below in
-          let within : x.0 < K = x.2 in
-          (x.0, x.1, omega (arith, within), λ m behind top. elim (cases_lt K m) [
-            | inl past ↦ (let same : suc K ≡ m = omega (arith, past, top) in subst (λ y. n ≤ cut y) same low)
-            | inr up ↦ x.3 m behind up
-          ])
+          let within : x.0 < K = x.2 in (
+            x.0,
+            x.1,
+            omega (arith, within),
+            λ m behind top. elim (cases_lt K m) [
+              | inl past ↦ (let same : suc K ≡ m = omega (arith, past, top) in subst (λ y. n ≤ cut y) same low)
+              | inr up ↦ x.3 m behind up
+            ],
+          )
     ]
 
 -- of the d numbers behind a, one has the property, so some has
@@ -105,7 +109,7 @@ module _ (s : Opening) (h : Host VolumeNow Call Reply) (n f : ℕ) where
 -- ---- what is shown
 
 module _ (s : SessionScript) (end : EndState) (r : SessionReport) (is : HeadlineOn s end r) (f i m n : ℕ) (there : is_some (block_at (tree_behind (opening_of s) end.host r.found) f i) ≡ true) (wrote : (told_by s end).writes n f i ≡ true)
-  (changed : same_file (at_number (tree_at (opening_of s) end.host m) f) (at_number (tree_at (opening_of s) end.host (suc m)) f) ≡ false) (before : n ≤ suc m) (found : suc m ≤ (told_by s end).cut r.found) where
+    (changed : same_file (at_number (tree_at (opening_of s) end.host m) f) (at_number (tree_at (opening_of s) end.host (suc m)) f) ≡ false) (before : n ≤ suc m) (found : suc m ≤ (told_by s end).cut r.found) where
   abbrev told : History WalkEnd
   told = told_by s end
 
@@ -136,7 +140,7 @@ module _ (s : SessionScript) (end : EndState) (r : SessionReport) (is : Headline
             sym (last.none (suc x.0) (omega (arith, le)) (omega (arith, within)))
             ∙ over x.0
             ∙ some_has alters (told.cut x.0) (told.cut (suc x.0) - told.cut x.0) (suc m) lower (omega (arith, lower, upper))
-              (altered (opening_of s) end.host m f changed)))
+            (altered (opening_of s) end.host m f changed)))
       ]
 
   pub shown : (v : ℕ) × (n ≤ v) × (block_at is.prefix.tree (is.prefix.alike.to f) i ≡ Some (content_at (opening_of s) end.host v f i))
@@ -144,6 +148,6 @@ module _ (s : SessionScript) (end : EndState) (r : SessionReport) (is : Headline
       let k = last_change {h = told} f r.found in
       let x = latest_shown s end r is f i k.0 mapped k.1 in
       let low : n ≤ last_write told f i (told.cut k.0) =
-          last_is told f i n (told.cut k.0) (some n wrote) (let up = behind k.0 k.1 in omega (arith, before, up)) wrote in
+      last_is told f i n (told.cut k.0) (some n wrote) (let up = behind k.0 k.1 in omega (arith, before, up)) wrote in
       let later : last_write told f i (told.cut k.0) ≤ x.version = x.later in
       (x.version, omega (arith, low, later), x.shown ∙ ap Some (ap (λ tree. unwrap_or (block_at tree f i) []) (tree_told (opening_of s) end.host x.version)))
