@@ -26,14 +26,20 @@ enum Step {
     Submit(u32),
     Accept,
     Dispatch,
+    // With the place that this word gives, as the loops draw it.
+    DispatchBy(u32),
     Receive,
     Transfer,
-    Persist,
+    TransferBy(u32),
+    PersistBy(u32),
     Answer,
     Complete(Option<u64>),
 }
 
-use Step::{Accept, Answer, Complete, Dispatch, Persist, Receive, Submit, Transfer};
+use Step::{
+    Accept, Answer, Complete, Dispatch, DispatchBy, PersistBy, Receive, Submit, Transfer,
+    TransferBy,
+};
 
 // Queues hold one item, and there are two ids.
 static STEPS: [(Step, bool); 31] = [
@@ -48,15 +54,15 @@ static STEPS: [(Step, bool); 31] = [
     (Accept, true),
     (Submit(1), true),
     (Accept, false),
-    // The second command finds the queue full, and is kept.
-    (Dispatch, true),
+    // Of two, 3 gives the second. The other command finds the queue full, and is kept.
+    (DispatchBy(3), true),
     (Dispatch, true),
     (Dispatch, false),
     (Receive, true),
     (Dispatch, true),
     (Dispatch, false),
     (Receive, false),
-    (Transfer, true),
+    (TransferBy(3), true),
     (Transfer, false),
     (Receive, true),
     (Transfer, true),
@@ -64,20 +70,20 @@ static STEPS: [(Step, bool); 31] = [
     (Answer, true),
     (Answer, true),
     (Answer, false),
-    (Complete(Some(0)), true),
-    (Answer, true),
     (Complete(Some(1)), true),
+    (Answer, true),
+    (Complete(Some(0)), true),
     (Complete(None), true),
-    (Persist, true),
-    (Persist, true),
-    (Persist, false),
+    (PersistBy(3), true),
+    (PersistBy(3), true),
+    (PersistBy(3), false),
 ];
 
 static OF_SCHEDULER: [SchedEvent; 6] = [
     SchedEvent::Accept,
     SchedEvent::Accept,
     SchedEvent::Accept,
-    SchedEvent::Dispatch(0, false),
+    SchedEvent::Dispatch(1, false),
     SchedEvent::Dispatch(0, true),
     SchedEvent::Dispatch(0, false),
 ];
@@ -90,7 +96,7 @@ static OF_DEVICE: [DeviceEvent; 9] = [
     DeviceEvent::Answer(false),
     DeviceEvent::Answer(true),
     DeviceEvent::Answer(false),
-    DeviceEvent::Persist(0),
+    DeviceEvent::Persist(1),
     DeviceEvent::Persist(0),
 ];
 
@@ -125,9 +131,11 @@ fn done<N: PartNames, H: Wait>(
         Submit(id) => Ok(submit.put(put(id)).is_ok()),
         Accept => sched.accept(),
         Dispatch => sched.dispatch(0),
+        DispatchBy(word) => sched.dispatch_word(word),
         Receive => dev.receive(),
         Transfer => dev.transfer(0),
-        Persist => dev.persist(0),
+        TransferBy(word) => dev.transfer_word(word),
+        PersistBy(word) => dev.persist_word(word),
         Answer => dev.answer(),
         Complete(id) => Ok(id_of(completion.take()) == id),
     };
