@@ -1,4 +1,5 @@
 pub mod CoveredCalls
+pub mod Meant
 pub mod Metadata
 pub mod Replies
 pub mod Versions

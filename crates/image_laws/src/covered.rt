@@ -9,5 +9,6 @@ mod laws;
 
 pub use laws::{
     blocks_are_as_new_as_their_file, calls_keep_what_they_cover,
-    recovered_trees_have_their_metadata, replies_are_of_the_tree_there, writes_survive_in_order,
+    each_barrier_or_sync_call_is_meant, recovered_trees_have_their_metadata,
+    replies_are_of_the_tree_there, writes_survive_in_order,
 };

@@ -1,5 +1,5 @@
 //! Laws of sessions whose volume was recovered. Each does nothing when it is called.
-ghost use Rattle.std.specs.Prelude.{◌≡◌, ◌≤◌, ◌<◌, ◌↔◌, ℕ, ◌+◌, suc, true, false, List, Some, Ok, IsOk, is_some};
+ghost use Rattle.std.specs.Prelude.{◌≡◌, ◌⊎◌, ◌≤◌, ◌<◌, ◌↔◌, ℕ, ◌+◌, suc, true, false, List, Some, Ok, IsOk, is_some};
 ghost use Rattle.std.specs.Map.{keys_of};
 ghost use Rattle.blk_base.specs.Members.{In};
 ghost use Rattle.order_model.specs.declared.completion.Completion.TheVariants.{Flushed};
@@ -9,6 +9,7 @@ ghost use Rattle.tree_model.specs.declared.node.Directory.{Directory};
 ghost use Rattle.tree_model.specs.declared.node.File.{File};
 ghost use Rattle.tree_model.specs.declared.node.Node.TheVariants as nodes;
 ghost use Rattle.tree_model.specs.declared.call.Reply.{Reply};
+ghost use Rattle.tree_model.specs.declared.call.Reply.TheVariants as replies;
 ghost use Rattle.tree_model.specs.Calls.{reply_of};
 ghost use Rattle.tree_model.specs.Causes.{LeadsTo};
 ghost use Rattle.tree_model.specs.Histories.{block_at, same_file};
@@ -18,12 +19,14 @@ ghost use Rattle.volume_steps.specs.Now.{room_of};
 ghost use Rattle.call_sessions.specs.promises.Trees.{tree_at, content_at};
 ghost use Rattle.session_grammar.specs.declared.session_script.SessionScript.{SessionScript};
 ghost use Rattle.session_core.specs.CallEnds.{IsTreesReply};
-ghost use Rattle.session_core.specs.CallNames.{is_barrier_or_sync, covers_data_alone};
+ghost use Rattle.session_core.specs.CallNames.{is_barrier_or_sync, covers_data_alone, covers_all_files};
+ghost use Rattle.host_machine.specs.State.{Answered};
+ghost use Rattle.call_sessions.specs.promises.Entries.{EndsAt};
 ghost use Rattle.session_core.specs.Core.{EndState, opening_of};
 ghost use Rattle.session_core.specs.Headline.{told_by, HeadlineOn};
 ghost use Rattle.session_core.specs.Report.{tree_behind};
 ghost use Rattle.session_core.specs.declared.report.SessionReport.{SessionReport};
-ghost use Rattle.image_laws.specs.covered.Calls.{Counts, IsAnsweredOk, IsOnFile, IsThereSince};
+ghost use Rattle.image_laws.specs.covered.Calls.{Counts, HasPath, IsAnsweredOk, IsOnFile, IsThereSince};
 
 /// A law, which does nothing when it is called: where a write survived, each order-preserving write survived that was
 /// submitted before it with a barrier or a flush at or behind that one and before this one; and where a flush completed, all
@@ -33,6 +36,14 @@ pub fn writes_survive_in_order()
         IsPut requests i → IsOrdered requests i → i ≤ b → IsFence requests b → b < j → IsPut requests j → IsKept requests r.cut.origins j → IsKept requests r.cut.origins i }
     ensures flushed { (s : SessionScript) (end : EndState) (r : SessionReport) → HeadlineOn s end r → (i flush : ℕ) → let requests = end.host.journal.flush.requests in
         IsPut requests i → i < flush → In (Flushed flush) r.cut.trace.sent.items → IsKept requests r.cut.origins i }
+{}
+
+/// A law, which does nothing when it is called: the words of the next law leave no call out. Each barrier or sync call is on
+/// all files or has a path, and each that was answered Ok began at some place before.
+pub fn each_barrier_or_sync_call_is_meant()
+    ensures files { (c : Call) → is_barrier_or_sync c ≡ true → (covers_all_files c ≡ true) ⊎ ((path : List ℕ) × HasPath c path) }
+    ensures answered { (s : SessionScript) (end : EndState) (r : SessionReport) → HeadlineOn s end r → (e t : ℕ) (c : Call) →
+        is_barrier_or_sync c ≡ true → EndsAt end.host.history e t c (Answered replies.Ok) → (b : ℕ) × IsAnsweredOk end.host b e t c }
 {}
 
 /// A law, which does nothing when it is called: a barrier or sync call was answered Ok; and it is a sync call, or something
