@@ -1,4 +1,6 @@
 pub mod CoveredLemmas
+pub mod MadeSession
 pub mod SessionsLemmas
 pub mod TidyLemmas
+pub mod TransactionSizeLemmas
 pub mod WidenedLemmas

@@ -35,6 +35,7 @@ use Rattle.call_sessions.proofs.PowerCutsLemmas.ImagesLemmas.SessionLaws.{is_div
 use Rattle.call_sessions.specs.Sessions.{WriteBytes, made_now, made_ring, plain_host}
 use Rattle.call_sessions.proofs.CallsKept.{all_with_bytes, is_plain}
 use Rattle.call_sessions.specs.power_cuts.calls.CallImages.{opening_on, made_session}
+use Rattle.image_laws.proofs.MadeSession as opened
 use Rattle.image_laws.proofs.SessionsLemmas.CleanRuns.{host_clean, recovered_clean}
 use Rattle.image_laws.proofs.SessionsLemmas.MadeClean.{MarksRoot, made_clean}
 
@@ -45,21 +46,20 @@ module _ (g : Geometry) (journal : ℕ) (wide : Bool) (limit : ℕ) (programs : 
   abbrev o : Opening
   o = opening_on g journal wide
 
+  abbrev byte_programs : List (List ByteCall)
+  byte_programs = opened.byte_programs g journal wide limit programs sound least most words bytes new
+
   written : AreWritten o.format o.writers
-  written = kind_written (new_journal journal wide) wide (made_kind journal wide)
+  written = opened.written g journal wide limit programs sound least most words bytes new
 
   volume : IsOpenedVolume o (made_now g)
-  volume = made_opened g sound journal wide least most (quota (new_journal journal wide)) new
+  volume = opened.volume g journal wide limit programs sound least most words bytes new
 
   empty : HasEmptyJournal o (made_ring journal) limit
-  empty = made_empty g sound journal wide least most (quota (new_journal journal wide)) new limit (omega (arith, least, words))
+  empty = opened.empty g journal wide limit programs sound least most words bytes new
 
-  abbrev byte_programs : List (List ByteCall)
-  byte_programs = all_with_bytes programs bytes
-
-  -- it is a session over calls with bytes
   same_host : made_session g journal wide limit programs events ≡ plain_host (host_after o (made_now g) (made_ring journal) limit byte_programs events)
-  same_host = is_plain o (made_now g) (made_ring journal) limit programs written volume empty bytes events
+  same_host = opened.same_host g journal wide limit programs sound least most words bytes new events
 
   pub session_clean : IsClean g (made_session g journal wide limit programs events).volume.contents.blocks
   session_clean =

@@ -1,0 +1,12 @@
+pub mod Counted
+pub mod CountedSteps
+pub mod CountedCalls
+pub mod CountedGone
+pub mod CountedNames
+pub mod CountedRename
+pub mod CountedWrites
+pub mod AnyCall
+pub mod Still
+pub mod Sets
+pub mod Hosts
+pub mod MadeShare
