@@ -1,5 +1,6 @@
 pub mod CoveredLemmas
 pub mod MadeSession
+pub mod ProgressLemmas
 pub mod SessionsLemmas
 pub mod TidyLemmas
 pub mod TransactionSizeLemmas

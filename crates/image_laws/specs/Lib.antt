@@ -1,2 +1,3 @@
 pub mod covered
+pub mod progress
 pub mod transaction_size

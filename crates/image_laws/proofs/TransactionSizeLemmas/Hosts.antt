@@ -181,17 +181,28 @@ module _ (s : Opening) (log : Ring) where
       sends_plan = λ p next rest phase is limit free. plan_share p next rest;
     })
 
-    pub step_share : (e : Event) → KeepsShare (stepped (over s) h e)
+    step_share : (e : Event) → KeepsShare (stepped (over s) h e)
     step_share (Call full t) = caller_share full t
     step_share (Commit full) = commit_share full
     step_share (WriteBack full pick) = writeback_walk (over s).model (over s).setup full h KeepsShare kept (λ p ordered limit free. same _ refl refl refl) pick
     step_share (FlushStep full next) = flush_walk (over s).model (over s).setup full h KeepsShare kept (λ limit free. same _ refl refl refl) (λ c. same _ refl refl refl) next
     step_share (TakeStep next) = take_walk (over s).model (over s).setup false h KeepsShare kept (λ c. same _ refl refl refl) next
 
-  -- so it is along whole runs
-  pub steps_share : HasRoom s.writers → ((k : ℕ) → log_needs s.writers (fresh k) ≤ s.quota) → AreWritten s.format s.writers → (h : H) (events : List Event) → IsSoundHost (promises s) h → FitsWords (over s) h → KeepsShare h →
-      KeepsShare (steps (over s) h events)
-  steps_share room first written h [] sound words kept = kept
-  steps_share room first written h (e ∷ events) sound words kept =
-      steps_share room first written (stepped (over s) h e) events (step_keeps (promises s) written (blocks_are_whole s) h e sound words) (step_fits (promises s) written (blocks_are_whole s) h e sound words)
-      (step_share room first h sound kept e)
+  -- what is known of a host after some steps of a session
+  pub record IsKept (h : H) : Type 0 where
+    pub sound : IsSoundHost (promises s) h
+    pub words : FitsWords (over s) h
+    pub share : KeepsShare h
+
+  module _ (room : HasRoom s.writers) (first : (k : ℕ) → log_needs s.writers (fresh k) ≤ s.quota) (written : AreWritten s.format s.writers) where
+    pub step_kept : (h : H) (e : Event) → IsKept h → IsKept (stepped (over s) h e)
+    step_kept h e k = record {
+      sound = step_keeps (promises s) written (blocks_are_whole s) h e k.sound k.words;
+      words = step_fits (promises s) written (blocks_are_whole s) h e k.sound k.words;
+      share = step_share room first h k.sound k.share e;
+    }
+
+    -- so it is along whole runs
+    pub steps_kept : (h : H) (events : List Event) → IsKept h → IsKept (steps (over s) h events)
+    steps_kept h [] k = k
+    steps_kept h (e ∷ events) k = steps_kept (stepped (over s) h e) events (step_kept h e k)

@@ -28,18 +28,18 @@ use Rattle.call_sessions.specs.Sessions.{WriteBytes, made_now, made_ring, plain_
 use Rattle.call_sessions.specs.power_cuts.calls.CallImages.{opening_on, made_session}
 use Rattle.image_laws.proofs.MadeSession as opened
 use Rattle.image_laws.specs.transaction_size.Sizes.{HaveLines}
-use Rattle.image_laws.proofs.TransactionSizeLemmas.Hosts.{KeepsShare, steps_share}
+use Rattle.image_laws.proofs.TransactionSizeLemmas.Hosts.{KeepsShare, IsKept, steps_kept}
 use Rattle.image_laws.proofs.TransactionSizeLemmas.Sets.{HasRoom}
 
 module _ (g : Geometry) (journal : ℕ) (wide : Bool) (limit : ℕ) (programs : List (List Call)) (events : List Event) (sound : IsSound g) (least : LEAST_JOURNAL ≤ journal) (most : journal ≤ MOST_JOURNAL)
     (words : limit + journal < 4294967296) (lines : HaveLines programs) (bytes_of : (c : Call) → IsWellFormed c → HasBytes c) (new : IsPlainNow (new_now g)) where
-  bytes : WriteBytes programs
+  pub bytes : WriteBytes programs
   bytes p c there here = bytes_of c (lines p c there here)
 
-  abbrev o : Opening
+  abbrev pub o : Opening
   o = opening_on g journal wide
 
-  abbrev byte_programs : List (List ByteCall)
+  abbrev pub byte_programs : List (List ByteCall)
   byte_programs = opened.byte_programs g journal wide limit programs sound least most words bytes new
 
   abbrev first : Host VolumeNow ByteCall Reply
@@ -47,14 +47,14 @@ module _ (g : Geometry) (journal : ℕ) (wide : Bool) (limit : ℕ) (programs : 
 
   -- ---- where it is opened
 
-  room : HasRoom o.writers
+  pub room : HasRoom o.writers
   room = by wide
     where
       by : (w : Bool) → HasRoom (opening_on g journal w).writers
       by true = record { tags = omega arith; revokes = omega arith }
       by false = record { tags = omega arith; revokes = omega arith }
 
-  none_fits : (k : ℕ) → log_needs o.writers (fresh k) ≤ o.quota
+  pub none_fits : (k : ℕ) → log_needs o.writers (fresh k) ≤ o.quota
   none_fits k = by wide
     where
       by : (w : Bool) → log_needs (opening_on g journal w).writers (fresh k) ≤ (opening_on g journal w).quota
@@ -76,25 +76,27 @@ module _ (g : Geometry) (journal : ℕ) (wide : Bool) (limit : ℕ) (programs : 
 
   -- ---- after these events
 
-  host_share : KeepsShare o (made_ring journal).places (host_after o (made_now g) (made_ring journal) limit byte_programs events)
-  host_share =
+  pub host_kept : IsKept o (made_ring journal).places (host_after o (made_now g) (made_ring journal) limit byte_programs events)
+  host_kept =
       let volume = opened.volume g journal wide limit programs sound least most words bytes new in
       let empty = opened.empty g journal wide limit programs sound least most words bytes new in
-      steps_share o (made_ring journal).places room none_fits (opened.written g journal wide limit programs sound least most words bytes new) first events
-      (opened_has (promises o) (made_now g) (made_ring journal) g.zones limit byte_programs (is_opened o (made_now g) volume (made_ring journal) limit byte_programs empty))
-      (fits_words o (made_now g) volume (made_ring journal) limit byte_programs empty) first_share
+      steps_kept o (made_ring journal).places room none_fits (opened.written g journal wide limit programs sound least most words bytes new) first events (record {
+        sound = opened_has (promises o) (made_now g) (made_ring journal) g.zones limit byte_programs (is_opened o (made_now g) volume (made_ring journal) limit byte_programs empty);
+        words = fits_words o (made_now g) volume (made_ring journal) limit byte_programs empty;
+        share = first_share;
+      })
 
   same_host : made_session g journal wide limit programs events ≡ plain_host (host_after o (made_now g) (made_ring journal) limit byte_programs events)
   same_host = opened.same_host g journal wide limit programs sound least most words bytes new events
 
   pub session_share : log_needs o.writers (made_session g journal wide limit programs events).journal.running ≤ o.quota
-  session_share = subst (λ (h : Host VolumeNow Call Reply). log_needs o.writers h.journal.running ≤ o.quota) (sym same_host) host_share.share
+  session_share = subst (λ (h : Host VolumeNow Call Reply). log_needs o.writers h.journal.running ≤ o.quota) (sym same_host) host_kept.share.share
 
   pub session_room : log_needs o.writers (made_session g journal wide limit programs events).journal.running ≤ ring_free (all_home (made_session g journal wide limit programs events).journal.ring)
   session_room = subst (λ (h : Host VolumeNow Call Reply). log_needs o.writers h.journal.running ≤ ring_free (all_home h.journal.ring)) (sym same_host)
-      (let share = host_share.share in
-      let first = ap (λ (r : Ring). r.first) host_share.places in
-      let past = ap (λ (r : Ring). r.past) host_share.places in
+      (let share = host_kept.share.share in
+      let first = ap (λ (r : Ring). r.first) host_kept.share.places in
+      let past = ap (λ (r : Ring). r.past) host_kept.share.places in
       by (log_needs o.writers (host_after o (made_now g) (made_ring journal) limit byte_programs events).journal.running) _ _ share first past)
     where
       by : (n first past : ℕ) → n ≤ o.quota → first ≡ 1 → past ≡ journal → n ≤ past - first - 0

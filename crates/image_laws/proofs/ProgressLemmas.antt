@@ -1,0 +1,5 @@
+pub mod UnsentPages
+pub mod CommitSteps
+pub mod Waiting
+pub mod MadeProgress
+pub mod SomeWaits

@@ -1,0 +1,108 @@
+-- What steps of the commit actor leave as it is: threads, what was taken, and what barrier calls wait for. So a barrier call
+-- whose transaction is through is answered in one step of its thread.
+use Rattle.std.specs.Prelude.{◌≡◌, ℕ, zero, suc, ◌-◌, Bool, true, false, List, [], ◌∷◌, length, map, Option, Some, None, slice_get, slice_index_or, refl}
+use Rattle.std.specs.List.{list_any}
+use Rattle.std.proofs.Common.{sym, ap, ◌∙◌, inl, inr}
+use Rattle.std.proofs.lemmas.Bool.{cases_Bool, or_parts}
+use Rattle.log_model.specs.Marks.{Logged}
+use Rattle.flush_actor.specs.Kinds.{is_durable, is_reading, makes_durable}
+use Rattle.flush_actor.specs.Part.{is_cut, first_failed, is_over}
+use Rattle.flush_actor.specs.Waits.{no_wait, need_commit}
+use Rattle.flush_actor.specs.declared.call_kind.CallKind.{CallKind}
+use Rattle.flush_actor.specs.declared.call_kind.CallKind.TheVariants as kinds
+use Rattle.flush_actor.specs.declared.wait.Wait.{Wait}
+use Rattle.commit_actor.specs.Journal.{Plan, is_submitted}
+use Rattle.journal_ring.specs.running.Plan.{Planned}
+use Rattle.host_machine.specs.Host.{Stepped, checkpoint, plan_sent, commit_step, advance, step_thread, step_call, end_with, stop_of, continue_begun, walk_pages, await_commit, await_durable}
+use Rattle.host_machine.specs.Model.{Model}
+use Rattle.host_machine.specs.Outcomes as outcomes
+use Rattle.host_machine.specs.State.{Answered, Begun, Thread, Host, Setup}
+use Rattle.host_machine.proofs.RunsLemmas.Walks.{commit_walk}
+
+-- a call that does not wait for the device needs no commit block durable
+no_block : (k id : ℕ) (w : Wait) → is_durable w.kind ≡ false → need_commit k id w ≡ w
+no_block k id w barrier = rw (no_need w.kind barrier) refl
+  where
+    no_need : (kind : CallKind) → is_durable kind ≡ false → makes_durable kind ≡ false
+    no_need kinds.FileSync e = cc
+    no_need kinds.WholeSync e = cc
+    no_need kinds.DataSync e = cc
+    no_need kinds.Reading e = refl
+    no_need kinds.Changing e = refl
+    no_need kinds.FileBarrier e = refl
+    no_need kinds.DataBarrier e = refl
+
+all_noted : (k id : ℕ) (ws : List Wait) (t : ℕ) → is_durable (slice_index_or ws t no_wait).kind ≡ false → slice_index_or (map (need_commit k id) ws) t no_wait ≡ slice_index_or ws t no_wait
+all_noted k id [] t e = refl
+all_noted k id (w ∷ ws) zero e = no_block k id w e
+all_noted k id (w ∷ ws) (suc t) e = all_noted k id ws t e
+
+module _ {T V C R : Type 0} (M : Model T V C R) (u : Setup) where
+  pub record Keeps (h x : Host V C R) : Type 0 where
+    pub threads : x.threads ≡ h.threads
+    pub taken : x.journal.flush.taken ≡ h.journal.flush.taken
+    pub waits : (t : ℕ) → is_durable (slice_index_or h.journal.flush.waits t no_wait).kind ≡ false → slice_index_or x.journal.flush.waits t no_wait ≡ slice_index_or h.journal.flush.waits t no_wait
+
+  pub keeps_then : (h x y : Host V C R) → Keeps h x → Keeps x y → Keeps h y
+  keeps_then h x y one two = record {
+    threads = two.threads ∙ one.threads;
+    taken = two.taken ∙ one.taken;
+    waits = λ t e. two.waits t (ap (λ (w : Wait). is_durable w.kind) (one.waits t e) ∙ e) ∙ one.waits t e;
+  }
+
+  module _ (h : Host V C R) where
+    pub same : Keeps h h
+    same = record { threads = refl; taken = refl; waits = λ t e. refl }
+
+    checked : (homes : List Logged) → Keeps h (checkpoint M u h homes)
+    checked [] = record { threads = refl; taken = refl; waits = λ t e. refl }
+    checked (x ∷ xs) = record { threads = refl; taken = refl; waits = λ t e. refl }
+
+    sent : (p : Plan) (next : Planned) (rest : List Planned) → Keeps h (plan_sent M u h p next rest)
+    sent p next [] = record { threads = refl; taken = refl; waits = λ t e. all_noted (h.journal.running.number - 1) (length h.journal.flush.requests) h.journal.flush.waits t e }
+    sent p next (q ∷ qs) = record { threads = refl; taken = refl; waits = λ t e. refl }
+
+    pub commit_keeps : (is_full : Bool) → Keeps h (commit_step M u is_full h).host
+    commit_keeps is_full = commit_walk M u is_full h (Keeps h) (record {
+      rests = same;
+      closes = record { threads = refl; taken = refl; waits = λ t e. refl };
+      sends_page = λ p limit free. record { threads = refl; taken = refl; waits = λ t e. refl };
+      checkpoints = λ limit free. checked h.journal.ring.homes;
+      builds = record { threads = refl; taken = refl; waits = λ t e. refl };
+      sends_plan = λ p next rest phase is limit free. sent p next rest;
+    })
+
+  -- ---- a barrier call is answered
+
+  module _ (h : Host V C R) (t : ℕ) (th : Thread C) (c : C) (rest : List C) (b : Begun) (k : ℕ) (stands : slice_get h.threads t ≡ Some th) (calls : th.calls ≡ c ∷ rest) (begun : th.begun ≡ Some b)
+      (going : is_over h.journal.flush ≡ false) (barrier : is_durable (slice_index_or h.journal.flush.waits t no_wait).kind ≡ false) (target : (slice_index_or h.journal.flush.waits t no_wait).target ≡ Some k)
+      (no_need : (slice_index_or h.journal.flush.waits t no_wait).need ≡ None) (through : is_submitted h.journal k ≡ true) where
+    unstopped : (kind : CallKind) → stop_of M u h.journal.flush.taken kind ≡ None
+    unstopped kind =
+        let both = or_parts (list_any is_cut h.journal.flush.taken) _ going in
+        by (first_failed h.journal.flush.taken) refl both.0 both.1 kind
+      where
+        by : (o : Option ℕ) → first_failed h.journal.flush.taken ≡ o → list_any is_cut h.journal.flush.taken ≡ false → (elim (first_failed h.journal.flush.taken) as (λ _. Bool) [ None ↦ false | Some id ↦ true ]) ≡ false →
+            (kind : CallKind) → stop_of M u h.journal.flush.taken kind ≡ None
+        by (Some id) at uncut unfailed kind = absurd (cc (sym (ap (λ o. elim o as (λ _. Bool) [ None ↦ false | Some id ↦ true ]) at) ∙ unfailed))
+        by None at uncut unfailed kind = elim (cases_Bool (is_reading kind)) [ inl reads ↦ rw (uncut, reads) refl | inr other ↦ rw (uncut, other, at) refl ]
+
+    abbrev w : Wait
+    w = slice_index_or h.journal.flush.waits t no_wait
+
+    -- where the transaction is through, a barrier call is done
+    done : (continue_begun M u false h t c rest w b).host ≡ (end_with M u h t c rest (Answered M.ok)).host
+    done =
+        ap (λ need. (elim need as (λ _. Stepped V C R) [
+          | Some id ↦ await_durable M u h t c rest w id
+          | None ↦ elim w.target as (λ _. Stepped V C R) [ Some k ↦ await_commit M u h t c rest w k | None ↦ walk_pages M u false h t c rest w b ]
+        ]).host) no_need
+        ∙ (ap (λ at. (elim at as (λ _. Stepped V C R) [ Some k ↦ await_commit M u h t c rest w k | None ↦ walk_pages M u false h t c rest w b ]).host) target
+        ∙ (rw (through, barrier) refl))
+
+    pub answered : (advance M u false h t).host ≡ (end_with M u h t c rest (Answered M.ok)).host
+    answered =
+        ap (λ o. (elim o as (λ _. Stepped V C R) [ None ↦ record { host = h; step = outcomes.Ended } | Some th ↦ step_thread M u false h t th.begun th.calls ]).host) stands
+        ∙ (ap (λ cs. (step_thread M u false h t th.begun cs).host) calls
+        ∙ (ap (λ o. (elim o as (λ _. Stepped V C R) [ Some stop ↦ end_with M u h t c rest stop | None ↦ step_call M u false h t th.begun c rest ]).host) (unstopped (M.kind c))
+        ∙ (ap (λ o. (step_call M u false h t o c rest).host) begun ∙ done)))

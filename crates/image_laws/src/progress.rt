@@ -1,0 +1,11 @@
+//! What gets on in a session: a transaction that is under way is committed, and a barrier call is answered, by the host's own
+//! steps. None of them waits for the device.
+//!
+//! The public functions are laws: they only call laws, and their clauses say it.
+//!
+//! Stands on `transaction_size` for the room that a transaction finds in the log, and on `call_sessions` for sessions.
+mod laws;
+
+pub use laws::{
+    a_barrier_call_waits, barrier_calls_need_no_device, transactions_under_way_are_committed,
+};
