@@ -1,5 +1,0 @@
-use Rattle.image_laws.proofs.CoveredLemmas.CoveredCalls.{metadata, blocks}
-use Rattle.image_laws.proofs.covered.laws.calls_keep_what_they_cover.Goals as goal
-
-pub returns : goal.returns
-returns c = record { metadata = metadata; blocks = blocks }

@@ -1,5 +1,0 @@
-use Rattle.image_laws.proofs.CoveredLemmas.Replies.{replied_there}
-use Rattle.image_laws.proofs.covered.laws.replies_are_of_the_tree_there.Goals as goal
-
-pub returns : goal.returns
-returns c = replied_there

@@ -1,5 +1,0 @@
-use Rattle.image_laws.proofs.ProgressLemmas.SomeWaits.{waits, under}
-use Rattle.image_laws.proofs.progress.laws.a_barrier_call_waits.Goals as goal
-
-pub returns : goal.returns
-returns c = record { waits = waits; under_way = under }
