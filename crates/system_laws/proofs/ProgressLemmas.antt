@@ -3,3 +3,5 @@ pub mod CommitSteps
 pub mod Waiting
 pub mod MadeProgress
 pub mod SomeWaits
+pub mod Targets
+pub mod MadeBarriers

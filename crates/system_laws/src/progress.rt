@@ -7,5 +7,6 @@
 mod laws;
 
 pub use laws::{
-    a_barrier_call_waits, barrier_calls_need_no_device, transactions_under_way_are_committed,
+    a_barrier_call_waits, barrier_calls_begin_at_once, barrier_calls_need_no_device,
+    transactions_under_way_are_committed,
 };

@@ -1,5 +1,5 @@
 -- In sessions on images that were made: transactions that are under way are committed, and barrier calls are answered.
-use Rattle.std.specs.Prelude.{◌≡◌, ◌⊎◌, ℕ, zero, suc, ◌+◌, ◌<◌, ◌≤◌, Bool, true, false, List, [], ◌∷◌, ◌++◌, length, replicate, slice_get}
+use Rattle.std.specs.Prelude.{◌≡◌, ◌⊎◌, ℕ, zero, suc, ◌+◌, ◌<◌, ◌≤◌, Bool, true, false, List, [], ◌∷◌, ◌++◌, length, replicate, None, slice_get, slice_index_or}
 use Rattle.std.proofs.lemmas.List.{append_assoc}
 use Rattle.std.proofs.Common.{sym, ap, subst, ◌∙◌, inl, inr, arith}
 use Rattle.blk_base.specs.laws.Members.{slice_get-push}
@@ -14,10 +14,12 @@ use Rattle.volume_steps.specs.Now.{VolumeNow}
 use Rattle.volume_steps.specs.Plain.{IsPlainNow}
 use Rattle.volume_steps.specs.NewNow.{new_now}
 use Rattle.flush_actor.specs.Kinds.{is_durable}
+use Rattle.flush_actor.specs.Waits.{no_wait}
 use Rattle.flush_actor.specs.Part.{has_stopped, is_over, at_limit}
 use Rattle.flush_actor.specs.declared.wait.Wait.{Wait}
 use Rattle.commit_actor.specs.Journal.{is_submitted}
-use Rattle.host_machine.specs.State.{Answered, Ends, Host}
+use Rattle.host_machine.specs.State as machine
+use Rattle.host_machine.specs.State.{Answered, Host}
 use Rattle.crash_laws.specs.Volumes.{WalkEnd}
 use Rattle.host_machine.specs.laws.Contract.{Over}
 use Rattle.host_machine.specs.runs.Runs.{Event, Call as CallStep, Commit, stepped, steps}
@@ -29,11 +31,11 @@ use Rattle.call_sessions.specs.Sessions.{call_over, made_now, made_ring, plain_h
 use Rattle.call_sessions.specs.power_cuts.calls.CallImages.{made_session}
 use Rattle.call_sessions.specs.promises.Entries.{EndsAt}
 use Rattle.call_sessions.proofs.PromisesLemmas.Origins.{steps_append}
-use Rattle.system_laws.specs.progress.Commits.{IsUnderWay, wanted, closing, sending, IsThrough, committed, full, IsBarrierWaiting}
+use Rattle.system_laws.specs.progress.Commits.{IsUnderWay, wanted, closing, sending, IsThrough, committed, full, IsInBarrier, IsBarrierWaiting}
 use Rattle.system_laws.specs.transaction_size.Sizes.{HaveLines}
 use Rattle.system_laws.proofs.MadeSession as opened
 use Rattle.system_laws.proofs.ProgressLemmas.CommitSteps.{under_way}
-use Rattle.system_laws.proofs.ProgressLemmas.Waiting.{Keeps, keeps_then, same, commit_keeps, answered}
+use Rattle.system_laws.proofs.ProgressLemmas.Waiting.{Keeps, keeps_then, same, commit_keeps, done}
 use Rattle.system_laws.proofs.TransactionSizeLemmas.MadeShare as made
 
 module _ (g : Geometry) (journal : ℕ) (wide : Bool) (limit : ℕ) (programs : List (List Call)) (events : List Event) (sound : IsSound g) (least : LEAST_JOURNAL ≤ journal) (most : journal ≤ MOST_JOURNAL)
@@ -86,25 +88,35 @@ module _ (g : Geometry) (journal : ℕ) (wide : Bool) (limit : ℕ) (programs : 
   after_keeps : (n : ℕ) → Keeps m.model m.setup (session events) (after n)
   after_keeps n = subst (Keeps m.model m.setup (session events)) (sym (steps_append m _ events (replicate n (Commit false)))) (commits_keep n (session events))
 
-  module _ (t : ℕ) (c : Call) (k : ℕ) (going : is_over (session events).journal.flush ≡ false) (waits : IsBarrierWaiting (session events) t c k) where
+  module _ (t : ℕ) (c : Call) (k : ℕ) (going : is_over (session events).journal.flush ≡ false) (waits : IsBarrierWaiting (session events) t c k) (no_need : (slice_index_or (session events).journal.flush.waits t no_wait).need ≡ None) where
+    abbrev Ends : ℕ → Type 0
+    Ends n = EndsAt (session (events ++ (replicate n (Commit false) ++ CallStep false t ∷ []))).history (length (after n).history) t c (Answered replies.Ok)
+
     -- where the transaction is through, a step of the thread answers
-    answers : (n : ℕ) → is_submitted (after n).journal k ≡ true → EndsAt (session (events ++ (replicate n (Commit false) ++ CallStep false t ∷ []))).history (length (after n).history) t c (Answered replies.Ok)
+    answers : (n : ℕ) → is_submitted (after n).journal k ≡ true → Ends n
     answers n through =
         let k1 = after_keeps n in
         let w = k1.waits t waits.barrier in
-        let step = answered m.model m.setup (after n) t waits.thread c waits.rest waits.begun k
-        (ap (λ ths. slice_get ths t) k1.threads ∙ waits.stands) waits.calls waits.has_begun
-        (ap has_stopped k1.taken ∙ going) (ap (λ (w : Wait). is_durable w.kind) w ∙ waits.barrier) (ap (λ (w : Wait). w.target) w ∙ waits.target) (ap (λ (w : Wait). w.need) w ∙ waits.no_need) through in
+        let call : IsInBarrier (after n) t c = record {
+          thread = waits.call.thread;
+          rest = waits.call.rest;
+          begun = waits.call.begun;
+          stands = ap (λ ths. slice_get ths t) k1.threads ∙ waits.call.stands;
+          calls = waits.call.calls;
+          has_begun = waits.call.has_begun;
+          barrier = waits.call.barrier;
+        } in
+        let step = done m.model m.setup (after n) t c call (ap has_stopped k1.taken ∙ going) k
+        (ap (λ (w : Wait). is_durable w.kind) w ∙ waits.barrier) (ap (λ (w : Wait). w.need) w ∙ no_need) (ap (λ (w : Wait). w.target) w ∙ waits.target) through in
         let last : session (events ++ (replicate n (Commit false) ++ CallStep false t ∷ [])) ≡ stepped m (after n) (CallStep false t) =
         ap session (sym (append_assoc events (replicate n (Commit false)) (CallStep false t ∷ []))) ∙ steps_append m _ (events ++ replicate n (Commit false)) (CallStep false t ∷ []) in
         subst (λ (h : Host VolumeNow Call Reply). EndsAt h.history (length (after n).history) t c (Answered replies.Ok)) (sym (last ∙ step))
-        (slice_get-push (after n).history (record { thread = t; call = c; what = Ends (Answered replies.Ok) }))
+        (slice_get-push (after n).history (record { thread = t; call = c; what = machine.Ends (Answered replies.Ok) }))
 
-    pub barrier_answered : IsUnderWay (session events) k ⊎ (is_submitted (session events).journal k ≡ true) →
-        (n : ℕ) × ((at_limit (after n).journal.flush ≡ true) ⊎ EndsAt (session (events ++ (replicate n (Commit false) ++ CallStep false t ∷ []))).history (length (after n).history) t c (Answered replies.Ok))
+    pub barrier_answered : IsUnderWay (session events) k ⊎ (is_submitted (session events).journal k ≡ true) → (n : ℕ) × ((at_limit (after n).journal.flush ≡ true) ⊎ Ends n)
     barrier_answered (inl way) = let r = commits k going way in (r.0, by r.0 r.1)
       where
-        by : (n : ℕ) → IsThrough (after n) k → (at_limit (after n).journal.flush ≡ true) ⊎ EndsAt (session (events ++ (replicate n (Commit false) ++ CallStep false t ∷ []))).history (length (after n).history) t c (Answered replies.Ok)
+        by : (n : ℕ) → IsThrough (after n) k → (at_limit (after n).journal.flush ≡ true) ⊎ Ends n
         by n (full e) = inl e
         by n (committed e) = inr (answers n e)
     barrier_answered (inr through) = (0, inr (answers 0 (subst (λ (h : Host VolumeNow Call Reply). is_submitted h.journal k ≡ true) (sym (steps_append m _ events [])) through)))

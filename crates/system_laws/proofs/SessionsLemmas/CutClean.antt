@@ -24,16 +24,13 @@ use Rattle.host_machine.specs.runs.laws.Written.{AreWritten}
 use Rattle.minix_host.specs.ByteCalls.{ByteCall}
 use Rattle.minix_host.specs.Runs.{IsOpenedVolume, HasEmptyJournal, host_after}
 use Rattle.minix_host.specs.Sessions.{Opening}
-use Rattle.minix_host.proofs.RealJournal.{kind_written}
 use Rattle.mount_make.specs.Images.{divided, recovered_from, recovered_by, volume_in, mounted}
 use Rattle.mount_make.specs.Made.{made_image, new_journal}
-use Rattle.mount_make.proofs.MadeImages.{made_kind, image_divided}
+use Rattle.mount_make.proofs.MadeImages.{image_divided}
 use Rattle.widening.proofs.Remounting.{mounted_parts}
-use Rattle.call_sessions.proofs.MadeLemmas.MadeJournal.{made_opened, made_empty}
 use Rattle.call_sessions.specs.power_cuts.images.SessionImages.{Start, HasSizes, IsCutOf, submitted}
 use Rattle.call_sessions.proofs.PowerCutsLemmas.ImagesLemmas.SessionLaws.{is_divided, recovers}
 use Rattle.call_sessions.specs.Sessions.{WriteBytes, made_now, made_ring, plain_host}
-use Rattle.call_sessions.proofs.CallsKept.{all_with_bytes, is_plain}
 use Rattle.call_sessions.specs.power_cuts.calls.CallImages.{opening_on, made_session}
 use Rattle.system_laws.proofs.MadeSession as opened
 use Rattle.system_laws.proofs.SessionsLemmas.CleanRuns.{host_clean, recovered_clean}

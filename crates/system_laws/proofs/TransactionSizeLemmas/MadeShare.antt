@@ -33,7 +33,7 @@ use Rattle.system_laws.proofs.TransactionSizeLemmas.Sets.{HasRoom}
 
 module _ (g : Geometry) (journal : ℕ) (wide : Bool) (limit : ℕ) (programs : List (List Call)) (events : List Event) (sound : IsSound g) (least : LEAST_JOURNAL ≤ journal) (most : journal ≤ MOST_JOURNAL)
     (words : limit + journal < 4294967296) (lines : HaveLines programs) (bytes_of : (c : Call) → IsWellFormed c → HasBytes c) (new : IsPlainNow (new_now g)) where
-  pub bytes : WriteBytes programs
+  abbrev pub bytes : WriteBytes programs
   bytes p c there here = bytes_of c (lines p c there here)
 
   abbrev pub o : Opening

@@ -1,6 +1,6 @@
-use Rattle.system_laws.proofs.ProgressLemmas.MadeProgress.{barrier_answered}
+use Rattle.system_laws.proofs.ProgressLemmas.MadeBarriers.{all_answered}
 use Rattle.system_laws.proofs.progress.laws.barrier_calls_need_no_device.Goals as goal
 
 pub returns : goal.returns
-returns c = λ g journal wide limit programs events t call k sound least most words lines.
-    barrier_answered g journal wide limit programs events sound least most words lines c.calls_of_scripts_write_bytes.ensures (c.new_volumes_are_in_use.ensures g sound) t call k
+returns c = λ g journal wide limit programs events t call sound least most words lines going.
+    all_answered g journal wide limit programs sound least most words lines c.calls_of_scripts_write_bytes.ensures (c.new_volumes_are_in_use.ensures g sound) t call events going
