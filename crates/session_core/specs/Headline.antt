@@ -106,7 +106,7 @@ pub record HeadlineOn (s : SessionScript) (end : EndState) (r : SessionReport) :
   pub accepted : IsPrefixOf end.sched.accepted end.host.journal.flush.requests
   pub received : IsPrefixOf end.dev.took end.sched.sent_out
   pub taken : IsPrefixOf end.host.journal.flush.taken end.dev.sent
-  -- The device is one as the script's header says: when its power went off, and that no transfer failed.
+  -- The device is one as the script's header says: its power is off, and a transfer of it failed, just where that says so.
   pub device : IsDeviceOf s end.dev
   -- The history goes by the programs and by the tree of calls.
   pub follows : FollowsTree (opening_of s) s.programs end.host
