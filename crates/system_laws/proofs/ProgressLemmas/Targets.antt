@@ -1,7 +1,7 @@
 -- What calls wait for along runs: a transaction up to the running one, and where it is the running one, that is wanted. Only a
 -- call that waits for the device needs a request durable.
 use Rattle.std.specs.List.{list_any}
-use Rattle.std.specs.Prelude.{◌≡◌, ◌⊎◌, ℕ, zero, suc, ◌+◌, ◌-◌, ◌<◌, ◌≤◌, ◌==◌, ◌&&◌, ◌||◌, Bool, true, false, not, List, [], ◌∷◌, length, map, set, is_none, Option, Some, None, slice_get, slice_index_or, refl, if◌then◌else◌}
+use Rattle.std.specs.Prelude.{◌≡◌, ◌⊎◌, ℕ, zero, suc, ◌+◌, ◌-◌, ◌<◌, ◌≤◌, ◌==◌, ◌&&◌, Bool, true, false, not, List, [], ◌∷◌, length, map, set, Option, Some, None, slice_get, slice_index_or, refl, if◌then◌else◌}
 use Rattle.std.proofs.Common.{sym, ap, subst, ◌∙◌, inl, inr, ⊎_elim, arith}
 use Rattle.std.proofs.lemmas.Bool.{cases_Bool, cases_eq, cases_lt, lt-ltb, eqb-false}
 use Rattle.std.proofs.lemmas.Option.{none-some, same_Some}
@@ -18,8 +18,7 @@ use Rattle.flush_actor.specs.declared.wait.Wait.{Wait}
 use Rattle.commit_actor.specs.Journal.{Plan, Phase, Idle, Closing, Committing, JournalPart, is_closing, is_submitted}
 use Rattle.journal_ring.specs.running.Plan.{Planned}
 use Rattle.journal_ring.specs.running.Running.{fresh, log_needs}
-use Rattle.host_machine.specs.Causes as causes
-use Rattle.host_machine.specs.Host.{Stepped, Goal, AwaitCommit, AnswerOk, unsent_on, goal_of, data_goal, set_wait, set_thread, send_page, end_with, await_durable, await_last_put, await_commit, pursue, walk_pages, continue_begun, stop_of, step_call, step_thread, advance, checkpoint, plan_sent, commit_step, wanting}
+use Rattle.host_machine.specs.Host.{Stepped, Goal, AwaitCommit, AnswerOk, unsent_on, goal_of, data_goal, set_wait, end_with, await_durable, await_last_put, await_commit, pursue, walk_pages, continue_begun, stop_of, step_call, step_thread, advance, checkpoint, plan_sent, commit_step, wanting}
 use Rattle.host_machine.specs.Model.{Model}
 use Rattle.host_machine.specs.Outcomes as outcomes
 use Rattle.host_machine.specs.State.{Ending, Answered, SessionFull, Begun, Thread, Host, Setup}
@@ -166,20 +165,11 @@ module _ {T V C R : Type 0} (M : Model T V C R) (u : Setup) where
             by (Committing p) = either Chosen (list_any (λ g. g == b.file) p.changed) _ _ (λ e. targets (n - 1) (omega arith)) (λ e. of_data b.kind b.sent_barrier durable)
 
         sends : (b.kind ≡ kinds.DataSync → is_durable w.kind ≡ true) → After (walk_pages M u full s t c rest w b)
-        sends durable = by (unsent_on s.pages b.list)
+        sends durable = by (unsent_on s.pages b.list) refl
           where
-            by : (x : Option (CachedPage × List (ℕ × ℕ))) → After (elim x as (λ _. Stepped V C R) [
-              | None ↦ pursue M u s t c rest w (goal_of s.journal b)
-              | Some next ↦
-                  if at_limit s.journal.flush then end_with M u s t c rest SessionFull
-                  else if full then record { host = s; step = outcomes.Waiting causes.QueueFull }
-                  else record {
-                    host = set_thread M u (send_page M u s next.0 true (is_data b.kind && is_none (unsent_on s.pages next.1))) t (record { calls = c ∷ rest; begun = Some (record b { list = next.1; sent_barrier = b.sent_barrier || (is_data b.kind && is_none (unsent_on s.pages next.1)) }) });
-                    step = outcomes.Sent (length s.journal.flush.requests);
-                  }
-            ])
-            by None = of_goal durable
-            by (Some next) = either After (at_limit s.journal.flush) _ _ (λ e. ends SessionFull) (λ d. either After full _ _ (λ e. kept) (λ e. kept))
+            by : (x : Option (CachedPage × List (ℕ × ℕ))) → unsent_on s.pages b.list ≡ x → After (walk_pages M u full s t c rest w b)
+            by None is = rw (is, walk_pages) (of_goal durable)
+            by (Some next) is = rw (is, walk_pages) (either After (at_limit s.journal.flush) _ _ (λ e. ends SessionFull) (λ d. either After full _ _ (λ e. kept) (λ e. kept)))
 
         goes_on : (b.kind ≡ kinds.DataSync → is_durable w.kind ≡ true) → After (continue_begun M u full s t c rest w b)
         goes_on durable = by w.need refl
