@@ -1,6 +1,6 @@
 //! Laws of whole sessions and of what is left: that the images which sessions, replays and widening leave are clean, as the
 //! checker understands it, that the tree which recovery finds has what calls cover, that transactions find room in the log,
-//! and that these and barrier calls get on without the device.
+//! and that these and barrier calls wait for the device only where an earlier transaction holds a block.
 //!
 //! `sessions` has the images of sessions, whole or cut, `widened` those of `widen`, `replays` those that `replay --raw`
 //! writes, and `tidy` that volumes that were made have no leftovers. `covered` has the tree that was recovered,

@@ -39,7 +39,7 @@ use Rattle.call_sessions.specs.Sessions.{call_over, made_now, made_ring, plain_c
 use Rattle.call_sessions.specs.power_cuts.calls.CallImages.{made_session}
 use Rattle.call_sessions.specs.promises.Entries.{EndsAt}
 use Rattle.call_sessions.proofs.PromisesLemmas.Origins.{steps_append}
-use Rattle.system_laws.specs.progress.Commits.{IsUnderWay, IsHeldBack, IsNext, IsInBarrier, IsBarrierWaiting, host_moves, IsAnsweredByHost, answered, session_full, held_back}
+use Rattle.system_laws.specs.progress.Commits.{IsUnderWay, IsHeldBack, IsNext, IsInBarrier, IsBarrierWaiting, host_moves, BarrierOutcome, answered, session_full, held_back}
 use Rattle.system_laws.specs.transaction_size.Sizes.{HaveLines}
 use Rattle.system_laws.proofs.MadeSession as opened
 use Rattle.system_laws.proofs.ProgressLemmas.MadeProgress.{barrier_answered}
@@ -142,7 +142,7 @@ module _ (g : Geometry) (journal : ℕ) (wide : Bool) (limit : ℕ) (programs : 
   step_is es = steps_append m _ es (CallStep false t ∷ [])
 
   abbrev Result : List Event → Type 0
-  Result es = IsAnsweredByHost session replies.Ok es t c
+  Result es = BarrierOutcome session replies.Ok es t c
 
   -- what follows a step of the thread follows that step and more
   later : (es : List Event) → Result (es ++ CallStep false t ∷ []) → Result es

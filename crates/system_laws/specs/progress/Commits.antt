@@ -59,8 +59,8 @@ host_moves t own commits = replicate own (Call false t) ++ replicate commits (Co
 
 -- From these events on thread t's call is answered by such steps and one more of the thread's own, none of them of the device;
 -- or the session comes to its limit by such steps; or the call waits for a transaction that is held back.
-pub data IsAnsweredByHost {V C R : Type 0} (session : List Event → Host V C R) (ok : R) (events : List Event) (t : ℕ) (c : C) : Type 0 where
+pub data BarrierOutcome {V C R : Type 0} (session : List Event → Host V C R) (ok : R) (events : List Event) (t : ℕ) (c : C) : Type 0 where
   answered : (own commits : ℕ) →
-      EndsAt (session (events ++ (host_moves t own commits ++ Call false t ∷ []))).history (length (session (events ++ host_moves t own commits)).history) t c (Answered ok) → IsAnsweredByHost session ok events t c
-  session_full : (own commits : ℕ) → at_limit (session (events ++ host_moves t own commits)).journal.flush ≡ true → IsAnsweredByHost session ok events t c
-  held_back : (own k : ℕ) → (slice_index_or (session (events ++ host_moves t own 0)).journal.flush.waits t no_wait).target ≡ Some k → IsHeldBack (session (events ++ host_moves t own 0)) k → IsAnsweredByHost session ok events t c
+      EndsAt (session (events ++ (host_moves t own commits ++ Call false t ∷ []))).history (length (session (events ++ host_moves t own commits)).history) t c (Answered ok) → BarrierOutcome session ok events t c
+  session_full : (own commits : ℕ) → at_limit (session (events ++ host_moves t own commits)).journal.flush ≡ true → BarrierOutcome session ok events t c
+  held_back : (own k : ℕ) → (slice_index_or (session (events ++ host_moves t own 0)).journal.flush.waits t no_wait).target ≡ Some k → IsHeldBack (session (events ++ host_moves t own 0)) k → BarrierOutcome session ok events t c

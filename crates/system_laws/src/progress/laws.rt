@@ -13,7 +13,7 @@ ghost use Rattle.host_machine.specs.runs.Runs.{Event, Commit};
 ghost use Rattle.host_machine.specs.runs.Runs.Event.{Call as CallStep};
 ghost use Rattle.call_sessions.specs.power_cuts.calls.CallImages.{made_session};
 ghost use Rattle.call_sessions.specs.promises.Entries.{EndsAt};
-ghost use Rattle.system_laws.specs.progress.Commits.{IsUnderWay, IsThrough, IsNext, IsInBarrier, IsBarrierWaiting, IsAnsweredByHost, host_moves};
+ghost use Rattle.system_laws.specs.progress.Commits.{IsUnderWay, IsThrough, IsNext, IsInBarrier, IsBarrierWaiting, BarrierOutcome, host_moves};
 ghost use Rattle.system_laws.specs.transaction_size.Sizes.{HaveLines};
 
 use call_sessions::calls_of_scripts_write_bytes;
@@ -38,12 +38,12 @@ pub fn transactions_under_way_are_committed()
 /// barrier call that has begun is answered Ok by steps of its own thread and of the commit actor, if the submission queue takes
 /// what they submit, and by none of the device. Or the session comes to its limit on requests; or the call waits for the
 /// running transaction, which nobody may close while an earlier one holds a block that it changed.
-pub fn barrier_calls_need_no_device()
+pub fn barrier_calls_wait_for_held_blocks_alone()
     ensures { (g : Geometry) (journal : ℕ) (wide : Bool) (limit : ℕ) (programs : List (List Call)) (events : List Event) (t : ℕ) (c : Call) →
         IsSound g → LEAST_JOURNAL ≤ journal → journal ≤ MOST_JOURNAL → limit + journal < 4294967296 → HaveLines programs →
         is_over (made_session g journal wide limit programs events).journal.flush ≡ false →
         IsInBarrier (made_session g journal wide limit programs events) t c →
-        IsAnsweredByHost (made_session g journal wide limit programs) replies.Ok events t c }
+        BarrierOutcome (made_session g journal wide limit programs) replies.Ok events t c }
 {
     new_volumes_are_in_use();
     calls_of_scripts_write_bytes();

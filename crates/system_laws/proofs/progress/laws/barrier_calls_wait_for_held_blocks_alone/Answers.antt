@@ -1,5 +1,5 @@
 use Rattle.system_laws.proofs.ProgressLemmas.MadeBarriers.{all_answered}
-use Rattle.system_laws.proofs.progress.laws.barrier_calls_need_no_device.Goals as goal
+use Rattle.system_laws.proofs.progress.laws.barrier_calls_wait_for_held_blocks_alone.Goals as goal
 
 pub returns : goal.returns
 returns c = λ g journal wide limit programs events t call sound least most words lines going.
