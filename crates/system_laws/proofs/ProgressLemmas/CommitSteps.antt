@@ -70,7 +70,7 @@ module _ (s : Opening) (log : Ring) (room : HasRoom s.writers) (first : (k : ℕ
       subst (IsRestOf (h.journal.running.number - 1)) none phase.rest
 
   -- they are all sent, or the session is full
-  data AreSent (h x : H) : Type 0 where
+  pub data AreSent (h x : H) : Type 0 where
     all_sent : IsGoing x → x.journal.phase ≡ Idle → x.journal.running ≡ h.journal.running → x.journal.flush.conflicts ≡ h.journal.flush.conflicts → AreSent h x
     at_end : at_limit x.journal.flush ≡ true → AreSent h x
 
@@ -114,7 +114,7 @@ module _ (s : Opening) (log : Ring) (room : HasRoom s.writers) (first : (k : ℕ
       none_left (x ∷ rest) low = absurd (omega (arith, low))
   sent_all (suc most) h g p is few = send_one most (λ h g p is few. sent_all most h g p is few) h g p is few
 
-  sent_plan : (h : H) → IsGoing h → (p : Plan) → h.journal.phase ≡ Committing p → (n : ℕ) × AreSent h (after n h)
+  pub sent_plan : (h : H) → IsGoing h → (p : Plan) → h.journal.phase ≡ Committing p → (n : ℕ) × AreSent h (after n h)
   sent_plan h g p is = sent_all (length p.rest) h g p is (omega arith)
 
   sent_now : (h : H) → IsGoing h → (p : Plan) → h.journal.phase ≡ Committing p → Reaches h (h.journal.running.number - 1)
