@@ -1,3 +1,4 @@
+pub mod AnsweredLemmas
 pub mod CoveredLemmas
 pub mod MadeSession
 pub mod ProgressLemmas
