@@ -1,5 +1,6 @@
 pub mod UnsentPages
 pub mod CommitSteps
+pub mod BegunSteps
 pub mod Waiting
 pub mod MadeProgress
 pub mod SomeWaits

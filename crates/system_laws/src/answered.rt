@@ -1,5 +1,5 @@
-//! That no session gets stuck: on any scheduler, and on any device that stays on and of which nothing fails, it can go on so that
-//! each call is answered.
+//! That no session gets stuck: on any scheduler, and on any device that stays on and of which nothing fails, rounds enough bring
+//! every call to its answer, or the session to its limit.
 //!
 //! The public function is a law: it only calls laws, and its clauses say it.
 //!

@@ -1,9 +1,9 @@
 -- Where all requests have completed and no flush is due: behind what a call needs a flush is answered, and blocks are held only
 -- while a call that waits for the device has yet to say what it needs.
-use Rattle.std.specs.List.{filter, list_any}
-use Rattle.std.specs.Prelude.{◌≡◌, ◌⊎◌, ℕ, zero, suc, ◌+◌, ◌==◌, ◌&&◌, ◌<◌, ◌≤◌, nat_lt, Bool, true, false, not, List, [], ◌∷◌, length, set, Option, Some, None, is_none, slice_get, slice_index_or, refl}
-use Rattle.std.proofs.Common.{sym, ap, subst, ◌∙◌, inl, inr, ⊎_elim, arith}
-use Rattle.std.proofs.lemmas.Bool.{cases_Bool, false≢true, true≢false, both_ways, not-false, ltb-true, eqb-true, lt-ltb, eq-eqb, and_parts, and_from, or_cases, or_left, or_right, or_parts}
+use Rattle.std.specs.List.{list_any}
+use Rattle.std.specs.Prelude.{◌≡◌, ℕ, zero, suc, ◌+◌, ◌==◌, ◌&&◌, ◌<◌, ◌≤◌, nat_lt, Bool, true, false, not, List, [], ◌∷◌, length, set, Option, Some, None, is_none, slice_get, slice_index_or, refl}
+use Rattle.std.proofs.Common.{sym, ap, subst, ◌∙◌, inl, ⊎_elim, arith}
+use Rattle.std.proofs.lemmas.Bool.{false≢true, true≢false, both_ways, not-false, ltb-true, eqb-true, lt-ltb, eq-eqb, and_parts, and_from, or_cases, or_left, or_right, or_parts}
 use Rattle.std.proofs.lemmas.Option.{none-some, same_Some}
 use Rattle.blk_base.specs.Members.{In}
 use Rattle.blk_base.specs.laws.Members.{In-list_any, list_any-In}
@@ -41,21 +41,6 @@ pub set_at : {X : Type 0} (d : X) (xs : List X) (i : ℕ) (x : X) → i < length
 set_at d [] i x low = absurd (omega (arith, low))
 set_at d (y ∷ ys) zero x low = refl
 set_at d (y ∷ ys) (suc i) x low = set_at d ys i x (omega (arith, low))
-
-pub set_apart : {X : Type 0} (d : X) (xs : List X) (t i : ℕ) (x : X) → (t ≡ i → ⊥) → slice_index_or (set xs i x) t d ≡ slice_index_or xs t d
-set_apart d [] t i x other = refl
-set_apart d (y ∷ ys) zero zero x other = absurd (other refl)
-set_apart d (y ∷ ys) zero (suc i) x other = refl
-set_apart d (y ∷ ys) (suc t) zero x other = refl
-set_apart d (y ∷ ys) (suc t) (suc i) x other = set_apart d ys t i x (λ e. other (ap suc e))
-
--- one that passes gives way to one that does not
-pub fewer : {X : Type 0} (p : X → Bool) (d : X) (xs : List X) (i : ℕ) (x : X) → p d ≡ false → p (slice_index_or xs i d) ≡ true → p x ≡ false → length (filter p (set xs i x)) < length (filter p xs)
-fewer p d [] i x unmet met now = absurd (both_ways (p d) unmet met)
-fewer p d (y ∷ ys) zero x unmet met now = rw (met, now) (omega arith)
-fewer p d (y ∷ ys) (suc i) x unmet met now =
-    let low = fewer p d ys i x unmet met now in
-    elim (cases_Bool (p y)) [ inl e ↦ rw e (omega (arith, low)) | inr e ↦ rw e low ]
 
 -- ---- notes
 
@@ -117,13 +102,6 @@ pub lacks_parts : (through : ℕ → Bool) (w : Wait) → lacks through w ≡ tr
 lacks_parts through w e =
     let rest = and_parts (is_none w.need) _ (and_parts (is_durable w.kind) _ e).1 in
     (is_None w.need rest.0, passing through w.target rest.1)
-
-pub needs_lack_nothing : (through : ℕ → Bool) (w : Wait) (id : ℕ) → w.need ≡ Some id → lacks through w ≡ false
-needs_lack_nothing through w id need = by (cases_Bool (lacks through w))
-  where
-    by : (lacks through w ≡ true) ⊎ (lacks through w ≡ false) → lacks through w ≡ false
-    by (inl e) = absurd (none-some id (sym (lacks_parts through w e).0 ∙ need))
-    by (inr e) = e
 
 -- what a call that awaits this transaction needs
 said : (through : ℕ → Bool) (w : Wait) (k : ℕ) → awaits k w ≡ true → through k ≡ true → lacks through w ≡ false → (w.target ≡ Some k) × ((id : ℕ) × (w.need ≡ Some id))

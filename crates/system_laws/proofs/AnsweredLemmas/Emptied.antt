@@ -1,8 +1,5 @@
 -- A session that stands, and one in which all that was submitted has completed in the device.
-use Rattle.std.specs.Prelude.{◌≡◌, [], ℕ, ◌<◌, ◌≤◌, length, Some}
-use Rattle.blk_base.specs.Members.{In}
-use Rattle.order_model.specs.declared.completion.Completion.{Completion}
-use Rattle.order_model.specs.Device.{completed, completion_id}
+use Rattle.std.specs.Prelude.{ℕ, ◌≤◌, length}
 use Rattle.order_model.specs.Machine.{Machine}
 use Rattle.schedulers.specs.reassign.Scheduler.{SchedSteps, IsScheduler}
 use Rattle.minix_host.specs.Sessions.{Opening}
@@ -18,12 +15,3 @@ module _ {K S : Type 0} (s : Opening) (k : SchedSteps K) (m : Machine S) (sched_
     pub placed : HaveBlocks (length s.image) r.host.journal.flush.requests
     pub queues : 1 ≤ r.queues.capacity
     pub waits : 1 ≤ (k.seen r.sched).capacity
-
-  -- x is r once all that was submitted has completed in the device
-  pub record IsEmptied (r x : SessionState K S) : Type 0 where
-    pub host : x.host ≡ r.host
-    pub completions : x.completions ≡ r.completions
-    pub kept : x.kept ≡ r.kept
-    pub submission : x.queues.submission ≡ []
-    -- each request that was submitted has completed in it
-    pub done : (id : ℕ) → id < length r.host.journal.flush.requests → (c : Completion) × In c (completed (m.seen x.dev)) × (completion_id c ≡ Some id)

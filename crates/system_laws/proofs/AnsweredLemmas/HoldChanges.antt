@@ -20,6 +20,7 @@ use Rattle.flush_actor.specs.conflicts.laws.Wants.{In-want}
 use Rattle.flush_actor.specs.declared.conflicts.held.Held.{Held}
 use Rattle.flush_actor.specs.declared.wait.Wait.{Wait}
 use Rattle.host_machine.specs.laws.Choices.{either}
+use Rattle.system_laws.proofs.ProgressLemmas.Targets.{set_either}
 use Rattle.system_laws.proofs.AnsweredLemmas.HoldNotes.{same_number, before_commit}
 use Rattle.system_laws.proofs.AnsweredLemmas.HoldParts.{IsOf, BlockFacts, NeedFacts, PartFacts, Grows}
 
@@ -191,13 +192,6 @@ set_awaits : (k : ℕ) (ws : List Wait) (t : ℕ) (w : Wait) → (awaits k (slic
 set_awaits k [] t w keeps e = e
 set_awaits k (x ∷ xs) zero w keeps e = ⊎_elim (λ here. or_left (awaits k w) _ (keeps here)) (λ later. or_right (awaits k w) _ later) (or_cases (awaits k x) _ e)
 set_awaits k (x ∷ xs) (suc t) w keeps e = ⊎_elim (λ here. or_left (awaits k x) _ here) (λ later. or_right (awaits k x) _ (set_awaits k xs t w keeps later)) (or_cases (awaits k x) _ e)
-
-set_either : (ws : List Wait) (t u : ℕ) (w : Wait) → (slice_index_or (set ws t w) u no_wait ≡ w) ⊎ (slice_index_or (set ws t w) u no_wait ≡ slice_index_or ws u no_wait)
-set_either [] t u w = inr refl
-set_either (x ∷ xs) zero zero w = inl refl
-set_either (x ∷ xs) zero (suc u) w = inr refl
-set_either (x ∷ xs) (suc t) zero w = inr refl
-set_either (x ∷ xs) (suc t) (suc u) w = set_either xs t u w
 
 -- while the session goes on, thread t still awaits each transaction that holds a block though its commit block moved
 abbrev pub StaysWaiting : FlushPart → Wait → Wait → Type 0

@@ -1,23 +1,21 @@
 -- What the flush actor's part of a host says of its requests: each has a note, which is that of a flush exactly where it is one, and
 -- calls need what was submitted. So no flush is due once one more is submitted.
 use Rattle.std.specs.List.{list_any}
-use Rattle.std.specs.Prelude.{◌≡◌, [], ◌⊎◌, ℕ, ◌+◌, ◌<◌, ◌&&◌, ◌||◌, not, nat_lt, Bool, true, false, List, ◌∷◌, ◌++◌, length, Option, Some, None, slice_get, refl}
-use Rattle.std.proofs.Common.{sym, ap, subst, ◌∙◌, inl, inr, arith}
+use Rattle.std.specs.Prelude.{◌≡◌, [], ℕ, ◌+◌, ◌<◌, ◌&&◌, ◌||◌, not, nat_lt, Bool, true, false, List, ◌∷◌, ◌++◌, length, Option, Some, None, slice_get, refl}
+use Rattle.std.proofs.Common.{sym, ap, subst, ◌∙◌, arith}
 use Rattle.std.proofs.lemmas.Bool.{and_parts, false≢true, lt-ltb}
-use Rattle.std.proofs.lemmas.List.{length-append}
 use Rattle.std.proofs.lemmas.Option.{same_Some}
 use Rattle.blk_base.specs.Members.{In}
-use Rattle.blk_base.specs.laws.Members.{In-list_any, slice_get-length, slice_get-push_cases}
+use Rattle.blk_base.specs.laws.Members.{In-list_any, slice_get-length}
 use Rattle.order_model.specs.declared.completion.Completion.{Completion}
 use Rattle.order_model.specs.declared.completion.Completion.TheVariants as completions
 use Rattle.order_model.specs.declared.note.Note.{Note}
 use Rattle.order_model.specs.declared.note.Note.TheVariants as notes
-use Rattle.order_model.specs.declared.request.Kind.TheVariants as puts
 use Rattle.order_model.specs.declared.request.Request.{Request}
 use Rattle.order_model.specs.Device.{completion_id}
 use Rattle.order_model.specs.OrderClosed.{is_flush}
 use Rattle.flush_actor.specs.Part.{FlushPart, is_flush_note, is_moved, flush_above}
-use Rattle.flush_actor.specs.Steps.{flush_due, is_due, submit_flush}
+use Rattle.flush_actor.specs.Steps.{flush_due, is_due}
 use Rattle.flush_actor.specs.declared.wait.Wait.{Wait}
 use Rattle.system_laws.proofs.AnsweredLemmas.Drained.{IsDrained}
 use Rattle.system_laws.proofs.AnsweredLemmas.OfRequests.{IsOf}
@@ -34,39 +32,6 @@ pub record Matches (f : FlushPart) : Type 0 where
   pub counted : length f.notes ≡ length f.requests
   pub alike : AreAlike f.notes f.requests
   pub needed : NeedBelow (length f.notes) f.waits
-
--- where these are the same
-pub same_matches : (f g : FlushPart) → g.requests ≡ f.requests → g.notes ≡ f.notes → g.waits ≡ f.waits → Matches f → Matches g
-same_matches f g requests ns waits v = record {
-  counted = ap length ns ∙ (v.counted ∙ ap length (sym requests));
-  alike = subst (λ l. AreAlike l g.requests) (sym ns) (subst (AreAlike f.notes) (sym requests) v.alike);
-  needed = subst (λ l. NeedBelow (length l) g.waits) (sym ns) (subst (NeedBelow (length f.notes)) (sym waits) v.needed);
-}
-
-pub flush_matches : (f : FlushPart) → Matches f → Matches (submit_flush f)
-flush_matches f v = record {
-  counted = (let n = length-append f.notes (notes.Flush ∷ []) in let q = length-append f.requests (last ∷ []) in let same = v.counted in omega (arith, n, q, same));
-  alike = alike;
-  needed = λ w i id e. let low = v.needed w i id e in let n = length-append f.notes (notes.Flush ∷ []) in omega (arith, low, n);
-}
-  where
-    last : Request
-    last = record { id = length f.requests; kind = puts.Flush; ordered = true; barrier = true }
-
-    alike : AreAlike (f.notes ++ notes.Flush ∷ []) (f.requests ++ last ∷ [])
-    alike id n q at_note at_request = by (slice_get-push_cases f.notes notes.Flush id n at_note) (slice_get-push_cases f.requests last id q at_request)
-      where
-        apart : (slice_get f.notes id ≡ Some n) → (id ≡ length f.requests) → ⊥
-        apart at end = let low = slice_get-length f.notes id n at in let same = v.counted in omega (arith, low, same, end)
-
-        below : (slice_get f.requests id ≡ Some q) → (id ≡ length f.notes) → ⊥
-        below at end = let low = slice_get-length f.requests id q at in let same = v.counted in omega (arith, low, same, end)
-
-        by : (slice_get f.notes id ≡ Some n) ⊎ ((id ≡ length f.notes) × (notes.Flush ≡ n)) → (slice_get f.requests id ≡ Some q) ⊎ ((id ≡ length f.requests) × (last ≡ q)) → is_flush_note n ≡ is_flush q.kind
-        by (inl a) (inl b) = v.alike id n q a b
-        by (inl a) (inr b) = absurd (apart a b.0)
-        by (inr a) (inl b) = absurd (below b a.0)
-        by (inr a) (inr b) = ap is_flush_note (sym a.1) ∙ ap (λ (x : Request). is_flush x.kind) b.1
 
 -- ---- no flush is due behind a flush
 

@@ -65,19 +65,6 @@ left_waiting v j k zone e =
     let left = left_state j k (state_of v.zones zone) (sym (state_released v.zones zone j) ∙ (waits_state (after_release v j) zone k).0 e) in
     ((waits_state v zone k).1 left.0, left.1)
 
-none_from : (j first : ℕ) (zs : List ZoneState) → ((z : Freed) → In z (waiting_from first zs) → z.transaction ≡ j) → waiting_from first (map (let_go j) zs) ≡ []
-none_from j first [] all = refl
-none_from j first (states.Free ∷ more) all = none_from j (first + 1) more all
-none_from j first (states.Used ∷ more) all = none_from j (first + 1) more all
-none_from j first (states.Quarantined freed_by ∷ more) all =
-    ap (λ (t : Bool). waiting_from first ((if t then states.Free else states.Quarantined freed_by) ∷ map (let_go j) more)) (eq-eqb freed_by j (all (record { zone = first; transaction = freed_by }) (inl refl)))
-    ∙ none_from j (first + 1) more (λ z i. all z (inr i))
-
--- where all zones that wait do so for one transaction, none waits once that is through
-pub none_waits : (v : VolumeNow) (k : ℕ) → ((z : Freed) → In z (zones_of v).waiting → z.transaction ≡ k) → (zones_of (after_release v k)).waiting ≡ []
-unfolding zones_of
-none_waits v k all = none_from k v.zones.first v.zones.states all
-
 -- ---- each zone is listed once
 
 waiting_above : (first : ℕ) (zs : List ZoneState) (z : Freed) → In z (waiting_from first zs) → first ≤ z.zone

@@ -64,7 +64,7 @@ module _ (s : Opening) (log : Ring) (room : HasRoom s.writers) (first : (k : ℕ
 
   -- ---- its log blocks are sent
 
-  some_rest : (h : H) → IsGoing h → (p : Plan) → h.journal.phase ≡ Committing p → p.rest ≡ [] → ⊥
+  pub some_rest : (h : H) → IsGoing h → (p : Plan) → h.journal.phase ≡ Committing p → p.rest ≡ [] → ⊥
   some_rest h g p is none =
       let phase = subst (InPhase (over s) (Stands s) h.history h.cuts (session (over s) (Stands s) g.kept.sound.rules.0 h) h.journal.running.number g.kept.sound.rules.1) is g.kept.sound.rules.2.images.0.in_phase in
       subst (IsRestOf (h.journal.running.number - 1)) none phase.rest

@@ -46,7 +46,7 @@ AreFor j = (t : ℕ) → IsFor j.running.number j.running.wanted (slice_index_or
 pub none_for : (n : ℕ) (asks : Bool) → IsFor n asks no_wait
 none_for n asks = record { within = λ k e. absurd (none-some k e); asked = λ k e same. absurd (none-some k e); need = λ e. refl }
 
-set_either : (ws : List Wait) (t u : ℕ) (w : Wait) → (slice_index_or (set ws t w) u no_wait ≡ w) ⊎ (slice_index_or (set ws t w) u no_wait ≡ slice_index_or ws u no_wait)
+pub set_either : (ws : List Wait) (t u : ℕ) (w : Wait) → (slice_index_or (set ws t w) u no_wait ≡ w) ⊎ (slice_index_or (set ws t w) u no_wait ≡ slice_index_or ws u no_wait)
 set_either [] t u w = inr refl
 set_either (x ∷ xs) zero zero w = inl refl
 set_either (x ∷ xs) zero (suc u) w = inr refl

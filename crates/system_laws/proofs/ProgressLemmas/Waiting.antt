@@ -1,24 +1,23 @@
 -- What steps of the commit actor leave as it is: threads, what was taken, and what barrier calls wait for. So a barrier call
 -- whose transaction is through is answered in one step of its thread, and one that waits for none sends its pages.
-use Rattle.std.specs.Prelude.{◌≡◌, ℕ, zero, suc, ◌-◌, Bool, true, false, List, [], ◌∷◌, length, map, Option, Some, None, slice_index_or, refl}
-use Rattle.std.specs.List.{list_any}
-use Rattle.std.proofs.Common.{sym, ap, ◌∙◌, inl, inr}
-use Rattle.std.proofs.lemmas.Bool.{cases_Bool, or_parts}
+use Rattle.std.specs.Prelude.{◌≡◌, ℕ, zero, suc, ◌-◌, Bool, true, false, List, [], ◌∷◌, length, map, Some, None, slice_index_or, refl}
+use Rattle.std.proofs.Common.{ap, ◌∙◌}
 use Rattle.log_model.specs.Marks.{Logged}
-use Rattle.flush_actor.specs.Kinds.{is_durable, is_reading, makes_durable}
-use Rattle.flush_actor.specs.Part.{is_cut, first_failed, is_over}
+use Rattle.flush_actor.specs.Kinds.{is_durable, makes_durable}
+use Rattle.flush_actor.specs.Part.{is_over}
 use Rattle.flush_actor.specs.Waits.{no_wait, need_commit}
 use Rattle.flush_actor.specs.declared.call_kind.CallKind.{CallKind}
 use Rattle.flush_actor.specs.declared.call_kind.CallKind.TheVariants as kinds
 use Rattle.flush_actor.specs.declared.wait.Wait.{Wait}
 use Rattle.commit_actor.specs.Journal.{Plan, is_submitted}
 use Rattle.journal_ring.specs.running.Plan.{Planned}
-use Rattle.host_machine.specs.Host.{Stepped, checkpoint, plan_sent, commit_step, advance, step_thread, step_call, end_with, stop_of, continue_begun, walk_pages, await_commit, await_durable}
+use Rattle.host_machine.specs.Host.{Stepped, checkpoint, plan_sent, commit_step, advance, step_thread, step_call, end_with, walk_pages, await_commit}
 use Rattle.host_machine.specs.Model.{Model}
 use Rattle.host_machine.specs.Outcomes as outcomes
 use Rattle.host_machine.specs.State.{Answered, Host, Setup}
 use Rattle.host_machine.proofs.RunsLemmas.Walks.{commit_walk}
 use Rattle.system_laws.specs.progress.Commits.{IsNext, IsInBarrier}
+use Rattle.system_laws.proofs.ProgressLemmas.BegunSteps.{IsInCall, unstopped, awaits_commit, sends_pages}
 
 -- a call that does not wait for the device needs no commit block durable
 no_block : (k id : ℕ) (w : Wait) → is_durable w.kind ≡ false → need_commit k id w ≡ w
@@ -76,48 +75,28 @@ module _ {T V C R : Type 0} (M : Model T V C R) (u : Setup) where
   -- ---- a step of a thread in a barrier call
 
   module _ (h : Host V C R) (going : is_over h.journal.flush ≡ false) where
-    unstopped : (kind : CallKind) → stop_of M u h.journal.flush.taken kind ≡ None
-    unstopped kind =
-        let both = or_parts (list_any is_cut h.journal.flush.taken) _ going in
-        by (first_failed h.journal.flush.taken) refl both.0 both.1 kind
-      where
-        by : (o : Option ℕ) → first_failed h.journal.flush.taken ≡ o → list_any is_cut h.journal.flush.taken ≡ false → (elim (first_failed h.journal.flush.taken) as (λ _. Bool) [ None ↦ false | Some id ↦ true ]) ≡ false →
-            (kind : CallKind) → stop_of M u h.journal.flush.taken kind ≡ None
-        by (Some id) at uncut unfailed kind = absurd (cc (sym (ap (λ o. elim o as (λ _. Bool) [ None ↦ false | Some id ↦ true ]) at) ∙ unfailed))
-        by None at uncut unfailed kind = elim (cases_Bool (is_reading kind)) [ inl reads ↦ rw (uncut, reads) refl | inr other ↦ rw (uncut, other, at) refl ]
-
     -- a call that has not begun is refused, or begins, or is done at once
     pub starts : (t : ℕ) (c : C) (next : IsNext h t c) → (advance M u false h t).host ≡ (step_call M u false h t None c next.rest).host
     starts t c next =
         ap (λ o. (elim o as (λ _. Stepped V C R) [ None ↦ record { host = h; step = outcomes.Ended } | Some th ↦ step_thread M u false h t th.begun th.calls ]).host) next.stands
         ∙ (ap (λ cs. (step_thread M u false h t next.thread.begun cs).host) next.calls
-        ∙ (ap (λ o. (elim o as (λ _. Stepped V C R) [ Some stop ↦ end_with M u h t c next.rest stop | None ↦ step_call M u false h t next.thread.begun c next.rest ]).host) (unstopped (M.kind c))
+        ∙ (ap (λ o. (elim o as (λ _. Stepped V C R) [ Some stop ↦ end_with M u h t c next.rest stop | None ↦ step_call M u false h t next.thread.begun c next.rest ]).host) (unstopped M u h going (M.kind c))
         ∙ ap (λ o. (step_call M u false h t o c next.rest).host) next.unbegun))
 
   module _ (h : Host V C R) (t : ℕ) (c : C) (call : IsInBarrier h t c) (going : is_over h.journal.flush ≡ false) where
+    abbrev in_call : IsInCall h t c
+    in_call = record { thread = call.thread; rest = call.rest; begun = call.begun; stands = call.stands; calls = call.calls; has_begun = call.has_begun }
+
     abbrev w : Wait
     w = slice_index_or h.journal.flush.waits t no_wait
-
-    goes_on : (advance M u false h t).host ≡ (continue_begun M u false h t c call.rest w call.begun).host
-    goes_on =
-        ap (λ o. (elim o as (λ _. Stepped V C R) [ None ↦ record { host = h; step = outcomes.Ended } | Some th ↦ step_thread M u false h t th.begun th.calls ]).host) call.stands
-        ∙ (ap (λ cs. (step_thread M u false h t call.thread.begun cs).host) call.calls
-        ∙ (ap (λ o. (elim o as (λ _. Stepped V C R) [ Some stop ↦ end_with M u h t c call.rest stop | None ↦ step_call M u false h t call.thread.begun c call.rest ]).host) (unstopped h going (M.kind c))
-        ∙ ap (λ o. (step_call M u false h t o c call.rest).host) call.has_begun))
-
-    abbrev Chosen : Option ℕ → Option ℕ → Host V C R
-    Chosen need target = (elim need as (λ _. Stepped V C R) [
-      | Some id ↦ await_durable M u h t c call.rest w id
-      | None ↦ elim target as (λ _. Stepped V C R) [ Some k ↦ await_commit M u h t c call.rest w k | None ↦ walk_pages M u false h t c call.rest w call.begun ]
-    ]).host
 
     committed : (k : ℕ) → is_durable w.kind ≡ false → is_submitted h.journal k ≡ true → (await_commit M u h t c call.rest w k).host ≡ (end_with M u h t c call.rest (Answered M.ok)).host
     committed k barrier through = rw (through, barrier) refl
 
     -- where the transaction is through, the call is done
     pub done : (k : ℕ) → is_durable w.kind ≡ false → w.need ≡ None → w.target ≡ Some k → is_submitted h.journal k ≡ true → (advance M u false h t).host ≡ (end_with M u h t c call.rest (Answered M.ok)).host
-    done k barrier no_need target through = goes_on ∙ (ap (λ need. Chosen need w.target) no_need ∙ (ap (Chosen None) target ∙ committed k barrier through))
+    done k barrier no_need target through = awaits_commit M u h t c in_call going k no_need target ∙ committed k barrier through
 
     -- until it waits for one, it sends its pages
     pub sends : w.need ≡ None → w.target ≡ None → (advance M u false h t).host ≡ (walk_pages M u false h t c call.rest w call.begun).host
-    sends no_need no_target = goes_on ∙ (ap (λ need. Chosen need w.target) no_need ∙ ap (Chosen None) no_target)
+    sends no_need no_target = sends_pages M u h t c in_call going no_need no_target

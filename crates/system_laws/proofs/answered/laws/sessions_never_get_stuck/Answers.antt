@@ -1,8 +1,8 @@
 use Rattle.std.proofs.Common.{sym, ◌∙◌}
 use Rattle.order_model.specs.Machine.{machine_of}
-use Rattle.system_laws.proofs.AnsweredLemmas.FreshFits.{few_map_blocks}
+use Rattle.system_laws.proofs.AnsweredLemmas.FreshFits.{fresh_fits, few_map_blocks}
 use Rattle.system_laws.proofs.AnsweredLemmas.Going.{GoesOn}
-use Rattle.system_laws.proofs.AnsweredLemmas.MadeWays.{can_finish, can_be_answered}
+use Rattle.system_laws.proofs.AnsweredLemmas.MadeRounds.{rounds_finish}
 use Rattle.system_laws.proofs.answered.laws.sessions_never_get_stuck.Goals as goal
 
 pub returns : goal.returns
@@ -25,17 +25,17 @@ returns g c =
       };
       transferred = λ x pick ok may. (l.falls x pick ok.0).0 may;
       persisted = λ x pick ok may. (l.falls x pick ok.0).1 may;
+      answered = λ x ok. (l.falls x 0 ok.0).2;
+      unanswered = l.no_answer;
       progress = λ x ok. l.progress x ok.0 (l.on x ok.0 ok.1) (l.works x ok.0 ok.2).0;
       completes = λ x ok. l.completion x ok.0;
       uncut = λ x ok i. let no = (l.power_cut x ok.0).0.told.0 i in let on = l.on x ok.0 ok.1 in absurd (cc (sym no ∙ on));
       unfailed = λ x id ok i. let no = ((l.failure x ok.0).known id i).0 in let fine = (l.works x ok.0 ok.2).0 in absurd (cc (sym no ∙ fine));
     } in
     record {
-      finish = λ geometry journal wide limit capacity programs sched dev events sound few least most words lines queues can waits valid on works start.
-          can_finish s.steps m s.valid good d.work_left keeps going geometry journal wide limit capacity programs sound least most words lines c.calls_of_scripts_write_bytes.ensures (c.new_volumes_are_in_use.ensures geometry sound)
-          sched dev can (valid, on, works) start queues waits few events;
-      answer = λ geometry journal wide limit capacity programs sched dev events t call sound least most words lines queues can waits valid on works start in_call.
-          can_be_answered s.steps m s.valid good d.work_left keeps going geometry journal wide limit capacity programs sound least most words lines c.calls_of_scripts_write_bytes.ensures (c.new_volumes_are_in_use.ensures geometry sound)
-          sched dev can (valid, on, works) start queues waits events t call in_call;
+      rounds = λ geometry journal wide limit capacity programs sched dev events sound least most words lines queues can waits valid on works start.
+          rounds_finish s.steps m s.valid good d.work_left keeps going geometry journal wide limit capacity programs sound least most words lines c.calls_of_scripts_write_bytes.ensures (c.new_volumes_are_in_use.ensures geometry sound)
+          sched dev can (valid, on, works) start queues waits events;
+      room = fresh_fits;
       few_blocks = few_map_blocks;
     }

@@ -1,11 +1,12 @@
 -- Ways on which a session on an image that was made may go on, on any scheduler and a device that stays on and does not fail.
-use Rattle.std.specs.List.{list_any}
-use Rattle.std.specs.Prelude.{◌≡◌, ◌⊎◌, ℕ, zero, suc, ◌+◌, ◌-◌, ◌==◌, ◌<◌, ◌≤◌, Bool, true, false, not, List, [], ◌∷◌, ◌++◌, length, map, replicate, Option, option_map, Some, None, slice_get, slice_index_or, refl, if◌then◌else◌}
+use Rattle.std.specs.List.{list_any, range_with_len}
+use Rattle.std.specs.Prelude.{◌≡◌, ◌⊎◌, ℕ, zero, suc, ◌+◌, ◌-◌, ◌==◌, ◌<◌, ◌≤◌, Bool, true, false, not, List, [], ◌∷◌, ◌++◌, length, map, drop, Option, option_map, Some, None, slice_get, slice_index_or, refl, if◌then◌else◌}
 use Rattle.std.proofs.Common.{sym, ap, subst, ◌∙◌, inl, inr, arith}
-use Rattle.std.proofs.lemmas.Bool.{ne_eqb, lt-ltb}
-use Rattle.std.proofs.lemmas.List.{append-nil, append_assoc}
+use Rattle.std.proofs.lemmas.Bool.{cases_Bool, cases_lt, ne_eqb, lt-ltb}
+use Rattle.std.proofs.lemmas.List.{append-nil, append_assoc, drop_all, length-map}
 use Rattle.std.proofs.lemmas.Option.{none-some, same_Some, slice_get-map}
 use Rattle.blk_base.specs.Members.{In}
+use Rattle.blk_base.specs.laws.Members.{In-append_cases, In-append_left, In-append_right, In-map, map-In, slice_get-length}
 use Rattle.order_model.specs.declared.completion.Completion.TheVariants as completions
 use Rattle.order_model.specs.declared.completion.Completion.{Completion}
 use Rattle.order_model.specs.declared.note.Note.TheVariants as notes
@@ -15,26 +16,31 @@ use Rattle.schedulers.specs.reassign.Scheduler.{SchedSteps, IsScheduler}
 use Rattle.minix_layout.specs.declared.division.Geometry.{Geometry}
 use Rattle.minix_layout.specs.declared.limits.TheConstants.{LEAST_JOURNAL, MOST_JOURNAL}
 use Rattle.minix_layout.specs.Geometry.{IsSound}
+use Rattle.stack_core.specs.BlockLayer.{QueuesState}
+use Rattle.volume_model.specs.laws.CutTells.{range-In}
 use Rattle.line_grammar.specs.calls.WellFormed.{IsWellFormed}
 use Rattle.line_grammar.specs.declared.events.event.CoreEvent.{CoreEvent}
 use Rattle.line_grammar.specs.declared.events.event.CoreEvent.TheVariants as events
 use Rattle.tree_model.specs.declared.call.Call.{Call}
 use Rattle.tree_model.specs.declared.call.Reply.{Reply}
-use Rattle.tree_model.specs.declared.call.Reply.TheVariants as replies
 use Rattle.volume_steps.specs.Now.{VolumeNow}
 use Rattle.volume_steps.specs.Plain.{IsPlainNow}
 use Rattle.volume_steps.specs.NewNow.{new_now}
 use Rattle.flush_actor.specs.Part.{FlushPart, is_cut, first_failed, is_over, at_limit}
+use Rattle.flush_actor.specs.Outcomes.{sent_between}
 use Rattle.flush_actor.specs.Waits.{no_wait}
 use Rattle.commit_actor.specs.Journal.{Plan, Committing, is_submitted}
 use Rattle.crash_laws.specs.Volumes.{WalkEnd}
-use Rattle.host_machine.specs.Host.{advance, commit_step}
-use Rattle.host_machine.specs.State.{Answered, Thread, Host}
+use Rattle.host_machine.specs.Host.{Stepped, advance, commit_step, step_thread}
+use Rattle.host_machine.specs.Model.{Freed}
+use Rattle.host_machine.specs.Outcomes as outcomes
+use Rattle.host_machine.specs.State.{Thread, Host}
 use Rattle.host_machine.specs.laws.Contract.{Over}
 use Rattle.host_machine.specs.runs.Runs as runs
-use Rattle.host_machine.specs.runs.Runs.{Event, Commit, stepped, steps}
+use Rattle.host_machine.specs.runs.Runs.{Event, AreBegun, Commit, stepped, steps}
+use Rattle.host_machine.proofs.RunsLemmas.StartHost.{none_begun as begun_none}
 use Rattle.minix_host.specs.ByteCalls.{ByteCall, HasBytes}
-use Rattle.minix_host.specs.Calls.{refusal, needed}
+use Rattle.minix_host.specs.Calls.{kind_of}
 use Rattle.minix_host.specs.PlainTrees.{PlainTree}
 use Rattle.minix_host.specs.Sessions.{Opening, over}
 use Rattle.minix_host.specs.Volumes.{zones_of}
@@ -42,44 +48,42 @@ use Rattle.mount_make.specs.Made.{made_image}
 use Rattle.call_sessions.specs.CallsAs.{thread_as}
 use Rattle.call_sessions.specs.Sessions.{call_over, made_now, made_ring, plain_call, plain_host}
 use Rattle.call_sessions.specs.power_cuts.calls.CallImages.{opening_on, made_session}
-use Rattle.call_sessions.specs.promises.Entries.{EndsAt}
 use Rattle.call_sessions.proofs.PromisesLemmas.Origins.{steps_append}
 use Rattle.session_core.specs.run.machine.Fits.{CanStart}
-use Rattle.session_core.specs.run.machine.Machine.{SessionState, Start, opened_session, is_full, submission_full, may_flush, flush_event, by_host, call_step, happens, run_events, host_event, host_events}
+use Rattle.session_core.specs.run.machine.Machine.{SessionState, Start, opened_session, is_full, submission_full, may_flush, flush_event, by_host, call_step, happens, run_events, host_event, host_events, with_submitted, repeated, round, back}
 use Rattle.session_core.specs.run.machine.MadeStart.{made_start, IsNew}
 use Rattle.session_core.proofs.RunLemmas.MachineLemmas.MadeStart.{made_can_start}
 use Rattle.session_core.proofs.RunLemmas.MachineLemmas.SessionRuns.{events_append, run_host, opened_holds, run_holds}
-use Rattle.system_laws.specs.answered.Calls.{IsInCall, HaveEnded, CanBeAnswered, answered as ends, session_full as no_more, CanFinish, finished as done, at_its_limit as full_up}
-use Rattle.system_laws.specs.progress.Commits.{IsUnderWay, IsThrough}
+use Rattle.system_laws.specs.answered.Rounds.{HaveEnded, RoundsFinish}
 use Rattle.system_laws.specs.transaction_size.Sizes.{HaveLines}
 use Rattle.system_laws.proofs.MadeSession as opened
 use Rattle.system_laws.proofs.ProgressLemmas.MadeBarriers as barriers
-use Rattle.system_laws.proofs.ProgressLemmas.CommitSteps.{AreSent, all_sent as steps_sent, at_end as steps_end, sent_plan}
-use Rattle.system_laws.proofs.ProgressLemmas.MadeProgress.{commits as committed_at}
+use Rattle.system_laws.proofs.ProgressLemmas.CommitSteps.{IsGoing, some_rest}
 use Rattle.system_laws.proofs.ProgressLemmas.Targets.{AreFor}
 use Rattle.system_laws.proofs.TransactionSizeLemmas.Hosts.{IsKept}
 use Rattle.system_laws.proofs.TransactionSizeLemmas.MadeShare as made
-use Rattle.system_laws.proofs.AnsweredLemmas.Answering.{answers}
 use Rattle.system_laws.proofs.AnsweredLemmas.BegunCalls.{AreFirst, none_begun, first_at, steps_first}
-use Rattle.system_laws.proofs.AnsweredLemmas.Drained.{IsDrained, OnlyFlushed}
-use Rattle.system_laws.proofs.AnsweredLemmas.Emptied.{Stands, IsEmptied}
-use Rattle.system_laws.proofs.AnsweredLemmas.Emptying.{emptied}
-use Rattle.system_laws.proofs.AnsweredLemmas.EnoughZones.{enough_zones}
-use Rattle.system_laws.proofs.AnsweredLemmas.Ends.{Grows, steps_grow}
-use Rattle.system_laws.proofs.AnsweredLemmas.Finishing.{Finishes, finished, too_full, finishes}
-use Rattle.system_laws.proofs.AnsweredLemmas.FreshFits.{fresh_fits}
+use Rattle.system_laws.proofs.AnsweredLemmas.HostFacts.{HasNoPlan}
+use Rattle.system_laws.proofs.AnsweredLemmas.Drained.{IsDrained}
+use Rattle.system_laws.proofs.AnsweredLemmas.Emptied.{Stands}
+use Rattle.system_laws.proofs.AnsweredLemmas.Ends.{Grows, steps_grow, no_calls, all_done}
 use Rattle.system_laws.proofs.AnsweredLemmas.Going.{GoesOn}
 use Rattle.system_laws.proofs.AnsweredLemmas.HoldFacts.{HoldFacts}
 use Rattle.system_laws.proofs.AnsweredLemmas.HoldParts.{IsOf}
 use Rattle.system_laws.proofs.AnsweredLemmas.Holds.{IsTimely, step_holds, has_commit, opened_holds as none_held}
+use Rattle.system_laws.proofs.AnsweredLemmas.LessFirst.{less_then, least_first}
+use Rattle.system_laws.proofs.AnsweredLemmas.LimitStays.{begun_stay, limit_stays}
+use Rattle.system_laws.proofs.AnsweredLemmas.LowerHosts.{caller_lowers, commit_lowers}
+use Rattle.system_laws.proofs.AnsweredLemmas.LowerParts.{IsBelow, accepts, dispatches, receives, transfers, persists, answers as answers_come, flushes, lowers}
 use Rattle.system_laws.proofs.AnsweredLemmas.MatchingHosts.{kept_matches}
 use Rattle.system_laws.proofs.AnsweredLemmas.Matching.{Matches}
-use Rattle.system_laws.proofs.AnsweredLemmas.NextCalls.{Finds}
+use Rattle.system_laws.proofs.AnsweredLemmas.Rounds.{HostLess, Less, by_host as by_host_less}
+use Rattle.system_laws.proofs.AnsweredLemmas.SettledParts.{settled}
+use Rattle.system_laws.proofs.AnsweredLemmas.StillHosts.{all_ended}
 use Rattle.system_laws.proofs.AnsweredLemmas.Standing.{hosts_push, all_stand}
-use Rattle.system_laws.proofs.AnsweredLemmas.Taking.{drained}
 use Rattle.system_laws.proofs.AnsweredLemmas.Told.{timely, taken_told}
-use Rattle.system_laws.proofs.AnsweredLemmas.WaitingZones.{ZonesWait, opened_wait, all_running, steps_wait, none_waits, made_waits}
-use Rattle.system_laws.proofs.AnsweredLemmas.Ways.{Facts, commits_after, IsSent, all_sent, at_end, GoOn, Outcome, answered, limited}
+use Rattle.system_laws.proofs.AnsweredLemmas.WaitingZones.{ZonesWait, opened_wait, all_running, steps_wait, made_waits}
+use Rattle.system_laws.proofs.AnsweredLemmas.HostFacts.{Facts, HasNoPlan}
 
 -- neither a cut nor a failure was taken
 not_stopped : (taken : List Completion) → (In completions.Cut taken → ⊥) → ((id : ℕ) → In (completions.Failed id) taken → ⊥) → (list_any is_cut taken ≡ false) × (first_failed taken ≡ None)
@@ -88,6 +92,26 @@ not_stopped (completions.Cut ∷ cs) uncut unfailed = absurd (uncut (inl refl))
 not_stopped (completions.Failed id ∷ cs) uncut unfailed = absurd (unfailed id (inl refl))
 not_stopped (completions.Moved id ∷ cs) uncut unfailed = not_stopped cs (λ i. uncut (inr i)) (λ id i. unfailed id (inr i))
 not_stopped (completions.Flushed id ∷ cs) uncut unfailed = not_stopped cs (λ i. uncut (inr i)) (λ id i. unfailed id (inr i))
+
+-- the events of a round behind the commit actor's, and those below the host, are the same
+is_below : (e : CoreEvent) → In e (drop 1 back) → IsBelow e
+is_below e (inl is) = subst IsBelow is flushes
+is_below e (inr (inl is)) = subst IsBelow is accepts
+is_below e (inr (inr (inl is))) = subst IsBelow is dispatches
+is_below e (inr (inr (inr (inl is)))) = subst IsBelow is receives
+is_below e (inr (inr (inr (inr (inl is))))) = subst IsBelow is transfers
+is_below e (inr (inr (inr (inr (inr (inl is)))))) = subst IsBelow is persists
+is_below e (inr (inr (inr (inr (inr (inr (inl is))))))) = subst IsBelow is answers_come
+is_below e (inr (inr (inr (inr (inr (inr (inr i))))))) = absurd i
+
+below_in : (e : CoreEvent) → IsBelow e → In e (drop 1 back)
+below_in e flushes = inl refl
+below_in e accepts = inr (inl refl)
+below_in e dispatches = inr (inr (inl refl))
+below_in e receives = inr (inr (inr (inl refl)))
+below_in e transfers = inr (inr (inr (inr (inl refl))))
+below_in e persists = inr (inr (inr (inr (inr (inl refl)))))
+below_in e answers_come = inr (inr (inr (inr (inr (inr (inl refl))))))
 
 module _ {K S : Type 0} (k : SchedSteps K) (m : Machine S) (sched_valid : K → Type 0) (good : S → Type 0) (left : S → ℕ) (scheduler : IsScheduler k sched_valid) (going : GoesOn m good left)
     (g : Geometry) (journal : ℕ) (wide : Bool) (limit capacity : ℕ) (programs : List (List Call)) (sound : IsSound g) (least : LEAST_JOURNAL ≤ journal) (most : journal ≤ MOST_JOURNAL)
@@ -269,9 +293,6 @@ module _ {K S : Type 0} (k : SchedSteps K) (m : Machine S) (sched_valid : K → 
   abbrev pub Leads : List CoreEvent → List CoreEvent → Type 0
   Leads x y = (more : List CoreEvent) × (y ≡ x ++ more)
 
-  further : (x y z : List CoreEvent) → Leads x y → Leads y z → Leads x z
-  further x y z one two = (one.0 ++ two.0, two.1 ∙ (ap (λ l. l ++ two.0) one.1 ∙ append_assoc x one.0 two.0))
-
   at_more : (x more : List CoreEvent) → at (x ++ more) ≡ run_events o k m (at x) more
   at_more x more = events_append o k m first x more
 
@@ -279,80 +300,20 @@ module _ {K S : Type 0} (k : SchedSteps K) (m : Machine S) (sched_valid : K → 
   unfolding run_events
   one_more x e = events_append o k m first x (e ∷ [])
 
-  -- all that was submitted goes to the device, and then the host takes this step, with room in the submission queue
-  host_step : (x : List CoreEvent) (e : CoreEvent) (step : Bool → Event) → ((r : SessionState K S) → (happens o k m r e).host ≡ stepped over_calls r.host (step (submission_full r))) → (y : List CoreEvent) × Leads x y × (host y ≡ stepped over_calls (host x) (step false))
-  host_step x e step is =
-      let r = emptied o k m sched_valid good left scheduler going (at x) (stands x) in
-      by r.0 r.2
-    where
-      by : (es : List CoreEvent) → IsEmptied o k m sched_valid good left scheduler going (at x) (run_events o k m (at x) es) → (y : List CoreEvent) × Leads x y × (host y ≡ stepped over_calls (host x) (step false))
-      by es empty =
-          let there = at_more x es in
-          let room : submission_full (at (x ++ es)) ≡ false = ap (λ l. is_full (at (x ++ es)).queues.capacity l) (ap (λ (r : SessionState K S). r.queues.submission) there ∙ empty.submission) ∙ ap not (lt-ltb 0 (at (x ++ es)).queues.capacity (stands (x ++ es)).queues) in (
-            (x ++ es) ++ e ∷ [],
-            further x (x ++ es) ((x ++ es) ++ e ∷ []) (es, refl) (e ∷ [], refl),
-            ap (λ (r : SessionState K S). r.host) (one_more (x ++ es) e) ∙ (is (at (x ++ es))
-                ∙ (ap (λ b. stepped over_calls (host (x ++ es)) (step b)) room ∙ ap (λ h. stepped over_calls h (step false)) (ap (λ (r : SessionState K S). r.host) there ∙ empty.host))),
-          )
-
-  calls : (x : List CoreEvent) (t : ℕ) → (y : List CoreEvent) × Leads x y × (host y ≡ (advance over_calls.model over_calls.setup false (host x) t).host)
-  calls x t = host_step x (events.Call (suc t)) (λ full. runs.Call full t) (λ r.
+  call_is : (r : SessionState K S) (t : ℕ) → (happens o k m r (events.Call (suc t))).host ≡ (advance over_calls.model over_calls.setup (submission_full r) r.host t).host
+  call_is r t =
       ap (λ b. (if b then r else by_host o r (call_step r (suc t))).host) (ne_eqb (suc t) 0 (λ e. let no : 1 ≤ 0 = omega (arith, e) in omega (arith, no)))
-      ∙ ap (λ n. stepped over_calls r.host (runs.Call (submission_full r) n)) (let less : suc t - 1 ≡ t = omega arith in less))
+      ∙ ap (λ n. stepped over_calls r.host (runs.Call (submission_full r) n)) (let less : suc t - 1 ≡ t = omega arith in less)
 
-  commits : (x : List CoreEvent) (n : ℕ) → (y : List CoreEvent) × Leads x y × (host y ≡ commits_after over_calls.model over_calls.setup n (host x))
-  commits x zero = (x, ([], sym (append-nil x)), refl)
-  commits x (suc n) =
-      let one = host_step x events.Commit runs.Commit (λ r. refl) in
-      let rest = commits one.0 n in
-      (rest.0, further x one.0 rest.0 one.1 rest.1, rest.2 ∙ ap (commits_after over_calls.model over_calls.setup n) one.2)
+  is_going : (x : List CoreEvent) → IsGoing o (made_ring journal).places (made.room g journal wide limit programs [] sound least most words lines bytes_of new) (made.none_fits g journal wide limit programs [] sound least most words lines bytes_of new)
+      (opened.written g journal wide limit programs sound least most words (made.bytes g journal wide limit programs [] sound least most words lines bytes_of new) new) (omega (arith, least)) (byte x)
+  is_going x = record { kept = kept x; going = subst (λ (h : Host VolumeNow Call Reply). is_over h.journal.flush ≡ false) (same x) (unstopped x) }
 
-  drains : (x : List CoreEvent) → (y : List CoreEvent) × Leads x y × OnlyFlushed (host x) (host y) × ((at_limit (host y).journal.flush ≡ true) ⊎ IsDrained (host y).journal.flush)
-  drains x =
-      let r = drained o k m sched_valid good left scheduler going (emptied o k m sched_valid good left scheduler going) (at x) (stands x) (matches x) in
-      let there = sym (at_more x r.0) in (
-        x ++ r.0,
-        (r.0, refl),
-        subst (λ (z : SessionState K S). OnlyFlushed (host x) z.host) there r.2,
-        subst (λ (z : SessionState K S). (at_limit z.host.journal.flush ≡ true) ⊎ IsDrained z.host.journal.flush) there r.3,
-      )
-
-  -- ---- what steps of the commit actor do
-
-  commits_are : (n : ℕ) (h : Host VolumeNow Call Reply) → commits_after over_calls.model over_calls.setup n h ≡ steps over_calls h (replicate n (Commit false))
-  commits_are zero h = refl
-  commits_are (suc n) h = commits_are n (commit_step over_calls.model over_calls.setup false h).host
-
-  later : (x : List CoreEvent) (n : ℕ) → session (hosts x ++ replicate n (Commit false)) ≡ commits_after over_calls.model over_calls.setup n (host x)
-  later x n = steps_append over_calls _ (hosts x) (replicate n (Commit false)) ∙ (ap (λ h. steps over_calls h (replicate n (Commit false))) (sym (run_host o k m first x)) ∙ sym (commits_are n (host x)))
-
-  through : (x : List CoreEvent) (n : ℕ) → IsUnderWay (host x) n → (i : ℕ) × IsThrough (commits_after over_calls.model over_calls.setup i (host x)) n
-  through x n way =
-      let is = run_host o k m first x in
-      let r = committed_at g journal wide limit programs (hosts x) sound least most words lines bytes_of new n (subst (λ (h : Host VolumeNow Call Reply). is_over h.journal.flush ≡ false) is (unstopped x)) (subst (λ (h : Host VolumeNow Call Reply). IsUnderWay h n) is way) in
-      (r.0, subst (λ (h : Host VolumeNow Call Reply). IsThrough h n) (later x r.0) r.1)
-
-  abbrev SentAt : List CoreEvent → ℕ → Type 0
-  SentAt x i = AreSent o (made_ring journal).places (made.room g journal wide limit programs [] sound least most words lines bytes_of new) (made.none_fits g journal wide limit programs [] sound least most words lines bytes_of new)
-      (opened.written g journal wide limit programs sound least most words (made.bytes g journal wide limit programs [] sound least most words lines bytes_of new) new) (omega (arith, least)) (byte x) (steps (over o) (byte x) (replicate i (Commit false)))
-
-  sent : (x : List CoreEvent) (p : Plan) → (host x).journal.phase ≡ Committing p → (i : ℕ) × IsSent over_calls.model over_calls.setup (commits_after over_calls.model over_calls.setup i (host x))
-  sent x p phase =
-      let r = sent_plan o (made_ring journal).places (made.room g journal wide limit programs [] sound least most words lines bytes_of new) (made.none_fits g journal wide limit programs [] sound least most words lines bytes_of new)
+  -- a plan that is being sent has a request left
+  plan_left : (x : List CoreEvent) (p : Plan) → (host x).journal.phase ≡ Committing p → p.rest ≡ [] → ⊥
+  plan_left x p phase none = some_rest o (made_ring journal).places (made.room g journal wide limit programs [] sound least most words lines bytes_of new) (made.none_fits g journal wide limit programs [] sound least most words lines bytes_of new)
       (opened.written g journal wide limit programs sound least most words (made.bytes g journal wide limit programs [] sound least most words lines bytes_of new) new) (omega (arith, least))
-      (byte x) (record { kept = kept x; going = subst (λ (h : Host VolumeNow Call Reply). is_over h.journal.flush ≡ false) (same x) (unstopped x) }) p (ap (λ (h : Host VolumeNow Call Reply). h.journal.phase) (sym (same x)) ∙ phase) in
-      (r.0, by r.0 r.1)
-    where
-      -- the host so many steps of the commit actor later
-      host_then : (i : ℕ) → commits_after over_calls.model over_calls.setup i (host x) ≡ plain_host (steps (over o) (byte x) (replicate i (Commit false)))
-      host_then i = sym (later x i) ∙ (barriers.same g journal wide limit programs sound least most words lines bytes_of new (hosts x ++ replicate i (Commit false)) ∙ ap plain_host (steps_append (over o) _ (hosts x) (replicate i (Commit false))))
-
-      by : (i : ℕ) → SentAt x i → IsSent over_calls.model over_calls.setup (commits_after over_calls.model over_calls.setup i (host x))
-      by i (steps_sent going idle running conflicts) = subst (IsSent over_calls.model over_calls.setup) (sym (host_then i)) (all_sent idle)
-      by i (steps_end e) = subst (IsSent over_calls.model over_calls.setup) (sym (host_then i)) (at_end e)
-
-  pub go_on : GoOn over_calls.model over_calls.setup (List CoreEvent) host Leads
-  go_on = record { facts = facts; here = λ x. ([], sym (append-nil x)); further = further; calls = calls; commits = commits; drains = drains; through = through; sent = sent }
+      (byte x) (is_going x) p (ap (λ (h : Host VolumeNow Call Reply). h.journal.phase) (sym (same x)) ∙ phase) none
 
   -- ---- room for calls
 
@@ -362,38 +323,175 @@ module _ {K S : Type 0} (k : SchedSteps K) (m : Machine S) (sched_valid : K → 
       _ (barriers.kept g journal wide limit programs sound least most words lines bytes_of new [])
       (opened_wait o (made_ring journal).places (made_now g) (made_ring journal) limit (made.byte_programs g journal wide limit programs [] sound least most words lines bytes_of new) (made_waits (made_now g) g (g.first ∷ []) refl)) (hosts x)
 
-  pub finds : g.zmap ≤ 12 → Finds over_calls.model over_calls.setup (List CoreEvent) host Leads
-  finds few = record {
-    enough = λ x c. by x c;
-    running = λ x unsent z i.
-        all_running o (made_ring journal).places (byte x) (zones_wait x) (λ p is. unsent p (ap (λ (h : Host VolumeNow Call Reply). h.journal.phase) (same x) ∙ is)) z (subst (λ (h : Host VolumeNow Call Reply). In z (zones_of h.volume).waiting) (same x) i)
-        ∙ ap (λ (h : Host VolumeNow Call Reply). h.journal.running.number) (sym (same x));
-    released = λ x n all. none_waits (host x).volume n all;
-    fits = fresh_fits g journal wide least few;
-  }
-    where
-      by : (x : List CoreEvent) (c : Call) → refusal (host x).volume c ≡ None → needed (host x).volume c ≤ length (zones_of (host x).volume).free + length (zones_of (host x).volume).waiting
-      by x c = subst (λ (h : Host VolumeNow Call Reply). refusal h.volume c ≡ None → needed h.volume c ≤ length (zones_of h.volume).free + length (zones_of h.volume).waiting) (sym (same x)) (enough_zones o (byte x).volume _ (kept x).sound.rules.2.images.0.stands c)
+  zones_running : (x : List CoreEvent) → HasNoPlan (host x) → (z : Freed) → In z (zones_of (host x).volume).waiting → z.transaction ≡ (host x).journal.running.number
+  zones_running x unsent z i =
+      all_running o (made_ring journal).places (byte x) (zones_wait x) (λ p is. unsent p (ap (λ (h : Host VolumeNow Call Reply). h.journal.phase) (same x) ∙ is)) z (subst (λ (h : Host VolumeNow Call Reply). In z (zones_of h.volume).waiting) (same x) i)
+      ∙ ap (λ (h : Host VolumeNow Call Reply). h.journal.running.number) (sym (same x))
 
   grows : (x y : List CoreEvent) → Leads x y → Grows (host x) (host y)
   grows x y lead =
       let is : at y ≡ run_events o k m (at x) lead.0 = ap at lead.1 ∙ at_more x lead.0 in
       subst (Grows (host x)) (sym (ap (λ (r : SessionState K S). r.host) is ∙ run_host o k m (at x) lead.0)) (steps_grow over_calls (host x) (host_events o k m (at x) lead.0))
 
-  -- ---- laws
+  -- ---- rounds
 
-  pub can_finish : g.zmap ≤ 12 → (es : List CoreEvent) → CanFinish host es
-  can_finish few es = by (finishes over_calls.model over_calls.setup (List CoreEvent) host Leads go_on (finds few) grows es)
-    where
-      by : Finishes over_calls.model over_calls.setup (List CoreEvent) host Leads go_on (finds few) grows es → CanFinish host es
-      by (finished y lead all) = done lead.0 (subst (λ l. HaveEnded (host l)) lead.1 all)
-      by (too_full y lead e) = full_up lead.0 (subst (λ l. at_limit (host l).journal.flush ≡ true) lead.1 e)
+  abbrev one_round : List CoreEvent
+  one_round = round (length programs)
 
-  pub can_be_answered : (es : List CoreEvent) (t : ℕ) (c : Call) → IsInCall (host es) t c → CanBeAnswered host es replies.Ok t c
-  can_be_answered es t c call = by (answers over_calls.model over_calls.setup (List CoreEvent) host Leads go_on es t c call)
+  none_sent : (f : FlushPart) → sent_between f f ≡ []
+  none_sent f = drop_all (length f.requests) f.requests (omega arith)
+
+  -- a step of the host that changes nothing leaves the session as it is
+  host_rests : (r : SessionState K S) (e : Event) → stepped over_calls r.host e ≡ r.host → by_host o r e ≡ r
+  host_rests r e is =
+      ap (λ (h : Host VolumeNow Call Reply). record r { host = h; queues = with_submitted r.queues (sent_between r.host.journal.flush h.journal.flush) }) is
+      ∙ ap (λ l. record r { queues = with_submitted r.queues l }) (none_sent r.host.journal.flush)
+      ∙ ap (λ (q : QueuesState). record r { queues = q }) (nothing r.queues)
     where
-      by : Outcome over_calls.model over_calls.setup (List CoreEvent) host Leads es t c → CanBeAnswered host es replies.Ok t c
-      by (limited y lead e) = no_more lead.0 (subst (λ l. at_limit (host l).journal.flush ≡ true) lead.1 e)
-      by (answered z y to_z to_y e) = ends to_z.0 to_y.0
-          (subst (λ l. EndsAt (host l).history (length (host (es ++ to_z.0)).history) t c (Answered replies.Ok)) (to_y.1 ∙ (ap (λ l. l ++ to_y.0) to_z.1 ∙ append_assoc es to_z.0 to_y.0))
-          (subst (λ l. EndsAt (host y).history (length (host l).history) t c (Answered replies.Ok)) to_z.1 e))
+      nothing : (q : QueuesState) → with_submitted q [] ≡ q
+      nothing q = ap (λ n. record q { next = n; submission = q.submission ++ [] }) (let none : q.next + 0 ≡ q.next = omega arith in none) ∙ ap (λ l. record q { submission = l }) (append-nil q.submission)
+
+  host_lowers : (r : SessionState K S) (e : Event) → (stepped over_calls r.host e ≡ r.host) ⊎ HostLess (stepped over_calls r.host e) r.host → (by_host o r e ≡ r) ⊎ Less k m left (by_host o r e) r
+  host_lowers r e (inl is) = inl (host_rests r e is)
+  host_lowers r e (inr lower) = inr (by_host_less lower)
+
+  -- changes nothing, or lowers something
+  abbrev Lowers : List CoreEvent → CoreEvent → Type 0
+  Lowers x e = (happens o k m (at x) e ≡ at x) ⊎ Less k m left (happens o k m (at x) e) (at x)
+
+  calls_lower : (x : List CoreEvent) (n : ℕ) → Lowers x (events.Call n)
+  calls_lower x n = by (n == 0)
+    where
+      by : (b : Bool) → ((if b then at x else by_host o (at x) (call_step (at x) n)) ≡ at x) ⊎ Less k m left (if b then at x else by_host o (at x) (call_step (at x) n)) (at x)
+      by true = inl refl
+      by false = host_lowers (at x) (call_step (at x) n) (caller_lowers over_calls.model over_calls.setup (submission_full (at x)) (host x) (facts x).counted (n - 1))
+
+  below_lowers : (x : List CoreEvent) (e : CoreEvent) → IsBelow e → Lowers x e
+  below_lowers x e is = lowers o k m sched_valid good left scheduler going (at x) (stands x) e is
+
+  back_lowers : (x : List CoreEvent) (e : CoreEvent) → In e back → Lowers x e
+  back_lowers x e (inl is) = subst (Lowers x) is (host_lowers (at x) (runs.Commit (submission_full (at x))) (commit_lowers over_calls.model over_calls.setup (submission_full (at x)) (host x)))
+  back_lowers x e (inr i) = below_lowers x e (is_below e i)
+
+  all_lower : (x : List CoreEvent) (e : CoreEvent) → In e one_round → Lowers x e
+  all_lower x e i = by (In-append_cases (map events.Call (range_with_len 1 (length programs))) back e i)
+    where
+      by : In e (map events.Call (range_with_len 1 (length programs))) ⊎ In e back → Lowers x e
+      by (inr there) = back_lowers x e there
+      by (inl there) = let n = In-map events.Call (range_with_len 1 (length programs)) e there in subst (Lowers x) n.2 (calls_lower x n.0)
+
+  -- these events lower something, or each of them changes nothing
+  abbrev AllLower : List CoreEvent → List CoreEvent → Type 0
+  AllLower x es = Less k m left (run_events o k m (at x) es) (at x) ⊎ ((run_events o k m (at x) es ≡ at x) × ((e : CoreEvent) → In e es → happens o k m (at x) e ≡ at x))
+
+  first_lowers : (x : List CoreEvent) (e : CoreEvent) (es : List CoreEvent) → Lowers x e → AllLower x es → AllLower (x ++ e ∷ []) es → AllLower x (e ∷ es)
+  unfolding run_events
+  first_lowers x e es (inl same) (inl less) more = inl (subst (λ r. Less k m left (run_events o k m r es) (at x)) (sym same) less)
+  first_lowers x e es (inl same) (inr p) more = inr (ap (λ r. run_events o k m r es) same ∙ p.0, each)
+    where
+      each : (d : CoreEvent) → In d (e ∷ es) → happens o k m (at x) d ≡ at x
+      each d (inl is) = subst (λ d. happens o k m (at x) d ≡ at x) is same
+      each d (inr i) = p.1 d i
+  first_lowers x e es (inr less) rest (inl more) =
+      inl (subst (λ r. Less k m left (run_events o k m r es) (at x)) (one_more x e) (less_then k m left (at x) (at (x ++ e ∷ [])) _ (subst (λ r. Less k m left r (at x)) (sym (one_more x e)) less) more))
+  first_lowers x e es (inr less) rest (inr p) = inl (subst (λ r. Less k m left r (at x)) (sym (ap (λ r. run_events o k m r es) (sym (one_more x e)) ∙ (p.0 ∙ one_more x e))) less)
+
+  list_lowers : (x es : List CoreEvent) → ((e : CoreEvent) → In e es → In e one_round) → AllLower x es
+  unfolding run_events
+  list_lowers x [] within = inr (refl, λ e i. absurd i)
+  list_lowers x (e ∷ es) within = first_lowers x e es (all_lower x e (within e (inl refl))) (list_lowers x es (λ d i. within d (inr i))) (list_lowers (x ++ e ∷ []) es (λ d i. within d (inr i)))
+
+  -- ---- where a round changes nothing
+
+  threads_stay : (x : List CoreEvent) → length (host x).threads ≡ length programs
+  unfolding run_events
+  threads_stay x = (grows [] x (x, refl)).many ∙ length-map programs _
+
+  module _ (x : List CoreEvent) (still : (e : CoreEvent) → In e one_round → happens o k m (at x) e ≡ at x) where
+    in_back : (e : CoreEvent) → In e back → happens o k m (at x) e ≡ at x
+    in_back e i = still e (In-append_right (map events.Call (range_with_len 1 (length programs))) back e i)
+
+    below_still : (e : CoreEvent) → IsBelow e → happens o k m (at x) e ≡ at x
+    below_still e is = in_back e (inr (below_in e is))
+
+    module _ (empty : (at x).queues.submission ≡ []) (drained : IsDrained (host x).journal.flush) (free : at_limit (host x).journal.flush ≡ false) where
+      room : submission_full (at x) ≡ false
+      room = ap (λ l. is_full (at x).queues.capacity l) empty ∙ ap not (lt-ltb 0 (at x).queues.capacity (stands x).queues)
+
+      still_thread : (t : ℕ) → (advance over_calls.model over_calls.setup false (host x) t).host ≡ host x
+      still_thread t = elim (cases_lt t (length programs)) [
+        | inl low ↦
+            ap (λ b. (advance over_calls.model over_calls.setup b (host x) t).host) (sym room)
+            ∙ (ap (λ (h : Host VolumeNow Call Reply). h) (sym (called t)) ∙ ap (λ (r : SessionState K S). r.host) (still (events.Call (suc t)) (In-append_left (map events.Call (range_with_len 1 (length programs))) back (events.Call (suc t)) (map-In events.Call (range_with_len 1 (length programs)) (suc t) (range-In 1 (length programs) (suc t) (omega arith) (omega (arith, low)))))))
+        | inr high ↦ none_there t high
+      ]
+        where
+          called : (t : ℕ) → (happens o k m (at x) (events.Call (suc t))).host ≡ (advance over_calls.model over_calls.setup (submission_full (at x)) (host x) t).host
+          called t = call_is (at x) t
+
+          none_there : (t : ℕ) → length programs ≤ t → (advance over_calls.model over_calls.setup false (host x) t).host ≡ host x
+          none_there t high = by (slice_get (host x).threads t) refl
+            where
+              by : (th : Option (Thread Call)) → slice_get (host x).threads t ≡ th → (advance over_calls.model over_calls.setup false (host x) t).host ≡ host x
+              by None is = ap (λ (th : Option (Thread Call)). (elim th as (λ _. Stepped VolumeNow Call Reply) [ None ↦ record { host = host x; step = outcomes.Ended } | Some th ↦ step_thread over_calls.model over_calls.setup false (host x) t th.begun th.calls ]).host) is
+              by (Some th) is = absurd (let low = slice_get-length (host x).threads t th is in let many = threads_stay x in omega (arith, low, many, high))
+
+      have_ended : HaveEnded (host x)
+      have_ended = all_ended over_calls.model over_calls.setup (host x) (facts x) drained free
+          (λ plan z i. zones_running x plan z i)
+          (λ p phase none. plan_left x p phase none)
+          still_thread
+          (ap (λ b. (commit_step over_calls.model over_calls.setup b (host x)).host) (sym room) ∙ ap (λ (r : SessionState K S). r.host) (in_back events.Commit (inl refl)))
+
+    ends_or_full : HaveEnded (host x) ⊎ (at_limit (host x).journal.flush ≡ true)
+    ends_or_full = by (settled o k m sched_valid good left scheduler going (at x) (stands x) (matches x) below_still)
+      where
+        by : ((at x).queues.submission ≡ []) × ((at_limit (host x).journal.flush ≡ true) ⊎ IsDrained (host x).journal.flush) → HaveEnded (host x) ⊎ (at_limit (host x).journal.flush ≡ true)
+        by (empty, inl limit) = inr limit
+        by (empty, inr drained) = elim (cases_Bool (at_limit (host x).journal.flush)) [ inl limit ↦ inr limit | inr free ↦ inl (have_ended empty drained free) ]
+
+  -- ---- so rounds get it done
+
+  abbrev IsOver : List CoreEvent → Type 0
+  IsOver x = HaveEnded (host x) ⊎ (at_limit (host x).journal.flush ≡ true)
+
+  abbrev DoneBy : List CoreEvent → Type 0
+  DoneBy x = (n : ℕ) × IsOver (x ++ repeated n one_round)
+
+  round_done : (x : List CoreEvent) → ((y : List CoreEvent) → Less k m left (at y) (at x) → DoneBy y) → DoneBy x
+  round_done x again = by (list_lowers x one_round (λ e i. i))
+    where
+      by : AllLower x one_round → DoneBy x
+      by (inl less) =
+          let rest = again (x ++ one_round) (subst (λ r. Less k m left r (at x)) (sym (at_more x one_round)) less) in
+          (suc rest.0, subst IsOver (append_assoc x one_round (repeated rest.0 one_round)) rest.1)
+      by (inr p) = (0, subst IsOver (sym (append-nil x)) (ends_or_full x p.1))
+
+  pub done_by : (x : List CoreEvent) → DoneBy x
+  done_by x = least_first k m left (List CoreEvent) at DoneBy round_done x
+
+  -- ---- what is over stays over
+
+  full_stays : (x more : List CoreEvent) → at_limit (host x).journal.flush ≡ true → at_limit (host (x ++ more)).journal.flush ≡ true
+  full_stays x more limit =
+      subst (λ (h : Host VolumeNow Call Reply). at_limit h.journal.flush ≡ true) (sym (ap (λ (r : SessionState K S). r.host) (at_more x more) ∙ run_host o k m (at x) more))
+      (limit_stays over_calls (host x) (subst (λ (h : Host VolumeNow Call Reply). AreBegun kind_of h.threads) (sym (run_host o k m first x)) (begun_stay over_calls first.host (begun_none kind_of programs) (hosts x))) (host_events o k m (at x) more) limit)
+
+  stays_over : (x more : List CoreEvent) → IsOver x → IsOver (x ++ more)
+  stays_over x more (inl all) = inl (all_done (host (x ++ more)).threads (let g = (grows x (x ++ more) (more, refl)).counted in let none = no_calls (host x).threads all in omega (arith, g, none)))
+  stays_over x more (inr limit) = inr (full_stays x more limit)
+
+  -- as many rounds, and more behind them
+  more_rounds : (n i : ℕ) → repeated (n + i) one_round ≡ repeated n one_round ++ repeated i one_round
+  more_rounds zero i = ap (λ n. repeated n one_round) (let none : 0 + i ≡ i = omega arith in none)
+  more_rounds (suc n) i = ap (λ n. repeated n one_round) (let next : suc n + i ≡ suc (n + i) = omega arith in next) ∙ (ap (λ l. one_round ++ l) (more_rounds n i) ∙ sym (append_assoc one_round (repeated n one_round) (repeated i one_round)))
+
+  pub rounds_finish : (es : List CoreEvent) → RoundsFinish host es (length programs)
+  rounds_finish es = by (done_by es)
+    where
+      by : DoneBy es → RoundsFinish host es (length programs)
+      by (n, over_then) = record {
+        rounds = n;
+        ended = λ i low. subst (λ l. IsOver (es ++ l)) (sym (more_rounds n (i - n)) ∙ ap (λ n. repeated n one_round) (let sum : n + (i - n) ≡ i = omega (arith, low) in sum))
+            (subst IsOver (append_assoc es (repeated n one_round) (repeated (i - n) one_round)) (stays_over (es ++ repeated n one_round) (repeated (i - n) one_round) over_then));
+      }
