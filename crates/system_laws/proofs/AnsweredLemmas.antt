@@ -32,3 +32,4 @@ pub mod StillHosts
 pub mod LowerParts
 pub mod SettledParts
 pub mod MadeRounds
+pub mod ScriptRounds

@@ -1,9 +1,10 @@
 //! That no session gets stuck: on any scheduler, and on any device that stays on and of which nothing fails, rounds enough bring
 //! every call to its answer, or the session to its limit.
 //!
-//! The public function is a law: it only calls laws, and its clauses say it.
+//! The public functions are laws: they only call laws, and their clauses say it.
 //!
-//! Stands on `progress` for what the host's own steps get done, and on `session_core` for sessions as one machine.
+//! Stands on `progress` for what the host's own steps get done, and on `session_core` for sessions as one machine and for the
+//! session that a script says.
 mod laws;
 
-pub use laws::sessions_never_get_stuck;
+pub use laws::{scripts_come_to_their_end, sessions_never_get_stuck};

@@ -33,7 +33,7 @@ use Rattle.system_laws.proofs.SessionsLemmas.CutClean.{mounted_clean}
 use Rattle.system_laws.proofs.SessionsLemmas.MadeClean.{MarksRoot}
 
 -- sizes of which a volume can be made give a sound division
-made_sound : (inodes zones journal width : ℕ) → AreSizes inodes zones journal → IsWidth width → IsSound (geometry_made inodes zones width)
+pub made_sound : (inodes zones journal width : ℕ) → AreSizes inodes zones journal → IsWidth width → IsSound (geometry_made inodes zones width)
 made_sound inodes zones journal width sizes is =
     let some = sizes.some_inode in
     let many = sizes.most_inodes in

@@ -1,6 +1,6 @@
 //! Laws of what sessions come to. Each does nothing when it is called.
 ghost use Rattle.minix_layout.specs.declared.limits.TheConstants.{LEAST_JOURNAL, MOST_JOURNAL};
-ghost use Rattle.std.specs.Prelude.{◌≡◌, ◌≤◌, ◌<◌, ◌+◌, ◌^◌, ℕ, Bool, true, List, length};
+ghost use Rattle.std.specs.Prelude.{◌≡◌, ◌≤◌, ◌<◌, ◌+◌, ◌^◌, ℕ, Bool, true, List, length, None};
 ghost use Rattle.minix_layout.specs.declared.division.Geometry.{Geometry};
 ghost use Rattle.minix_layout.specs.Geometry.{IsSound, geometry_made};
 ghost use Rattle.mount_make.specs.Made.{made_image};
@@ -9,13 +9,20 @@ ghost use Rattle.order_model.specs.Machine.{machine_of};
 ghost use Rattle.tree_model.specs.declared.call.Call.{Call};
 ghost use Rattle.journal_ring.specs.running.Running.{fresh, fits_in};
 ghost use Rattle.call_sessions.specs.power_cuts.calls.CallImages.{opening_on};
+ghost use Rattle.session_grammar.specs.declared.session_script.SessionScript.{SessionScript};
+ghost use Rattle.session_grammar.specs.WellFormed.{IsWellFormed};
 ghost use Rattle.session_core.specs.run.machine.MadeStart.{IsNew};
 ghost use Rattle.system_laws.specs.answered.Rounds.{RoundsFinish, session_host};
+ghost use Rattle.system_laws.specs.answered.Scripts.{RoundsEnd};
 ghost use Rattle.system_laws.specs.transaction_size.Sizes.{HaveLines};
 
 use call_sessions::calls_of_scripts_write_bytes;
+use device_epochs::EpochDevice;
+use flog_device::FlogDevice;
 use minix_host::new_volumes_are_in_use;
 use order_model::OrderedDev;
+use schedulers::elevator::Elevator;
+use schedulers::epochs::Sched;
 use schedulers::reassign::Scheduler;
 
 /// A law, which only calls laws: no session gets stuck. From wherever a session on an image that was made stands, on any
@@ -36,4 +43,16 @@ pub fn sessions_never_get_stuck<S: Scheduler, D: OrderedDev>()
 {
     new_volumes_are_in_use();
     calls_of_scripts_write_bytes();
+}
+
+/// A law, which only calls laws: a script with rounds enough behind its events ends with all its calls answered, or with as many
+/// requests as it may have, if it has neither a line `cut` nor a line `fail`. It is of the scheduler and the device that the
+/// script says.
+pub fn scripts_come_to_their_end()
+    ensures { (s : SessionScript) → IsWellFormed s → s.header.cut ≡ None → s.header.fail ≡ None → RoundsEnd s }
+{
+    sessions_never_get_stuck::<Sched, EpochDevice>();
+    sessions_never_get_stuck::<Elevator, EpochDevice>();
+    sessions_never_get_stuck::<Sched, FlogDevice>();
+    sessions_never_get_stuck::<Elevator, FlogDevice>();
 }
