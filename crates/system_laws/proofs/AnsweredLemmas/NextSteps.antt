@@ -15,8 +15,7 @@ use Rattle.host_machine.specs.Outcomes as outcomes
 use Rattle.host_machine.specs.State as machine
 use Rattle.host_machine.specs.State.{Answered, SessionFull, Thread, Host, Setup}
 use Rattle.call_sessions.specs.promises.Entries.{EndsAt}
-use Rattle.system_laws.proofs.ProgressLemmas.BegunSteps.{IsInCall}
-use Rattle.system_laws.specs.progress.Commits.{IsNext}
+use Rattle.system_laws.specs.progress.Commits.{IsNext, IsInCall}
 use Rattle.system_laws.proofs.ProgressLemmas.Waiting.{starts}
 
 -- ---- why a call waits

@@ -22,9 +22,9 @@ use Rattle.host_machine.specs.Model.{Model, Freed}
 use Rattle.host_machine.specs.State.{Ending, Answered, Begun, Thread, Host, Setup}
 use Rattle.call_sessions.specs.promises.Entries.{EndsAt}
 use Rattle.system_laws.specs.answered.Rounds.{HaveEnded}
-use Rattle.system_laws.specs.progress.Commits.{IsNext, IsUnderWay, wanted, closing, sending, IsHeldBack}
+use Rattle.system_laws.specs.progress.Commits.{IsInCall, IsNext, IsUnderWay, wanted, closing, sending, IsHeldBack}
 use Rattle.system_laws.proofs.AnsweredLemmas.CallSteps.{EndsOrNeeds, ends, needs_one, durable, last, commit_ends}
-use Rattle.system_laws.proofs.ProgressLemmas.BegunSteps.{IsInCall, needs, awaits_commit, sends_pages}
+use Rattle.system_laws.proofs.ProgressLemmas.BegunSteps.{needs, awaits_commit, sends_pages}
 use Rattle.system_laws.proofs.AnsweredLemmas.HostFacts.{Facts, HasNoPlan}
 use Rattle.system_laws.proofs.AnsweredLemmas.Drained.{IsDrained}
 use Rattle.system_laws.proofs.AnsweredLemmas.DrainedHolds.{some_at, place_within, set_at, lacks, lacks_parts, flush_behind, none_wanted}

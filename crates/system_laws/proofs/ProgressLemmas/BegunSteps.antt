@@ -1,5 +1,5 @@
 -- A step of a thread whose barrier or sync call has begun: what it goes on with.
-use Rattle.std.specs.Prelude.{◌≡◌, ℕ, Bool, true, false, List, ◌∷◌, Option, Some, None, slice_get, slice_index_or, refl}
+use Rattle.std.specs.Prelude.{◌≡◌, ℕ, Bool, true, false, Option, Some, None, slice_get, slice_index_or, refl}
 use Rattle.std.specs.List.{list_any}
 use Rattle.std.proofs.Common.{sym, ap, ◌∙◌, inl, inr}
 use Rattle.std.proofs.lemmas.Bool.{cases_Bool, or_parts}
@@ -11,16 +11,12 @@ use Rattle.flush_actor.specs.declared.wait.Wait.{Wait}
 use Rattle.host_machine.specs.Host.{Stepped, advance, step_thread, step_call, end_with, stop_of, continue_begun, walk_pages, await_commit, await_durable}
 use Rattle.host_machine.specs.Model.{Model}
 use Rattle.host_machine.specs.Outcomes as outcomes
-use Rattle.host_machine.specs.State.{Begun, Thread, Host, Setup}
+use Rattle.host_machine.specs.State.{Host, Setup}
+use Rattle.system_laws.specs.progress.Commits.{IsInCall}
 
--- thread t is in this call, which has begun and not ended
-pub record IsInCall {V C R : Type 0} (h : Host V C R) (t : ℕ) (c : C) : Type 0 where
-  pub thread : Thread C
-  pub rest : List C
-  pub begun : Begun
-  pub stands : slice_get h.threads t ≡ Some thread
-  pub calls : thread.calls ≡ c ∷ rest
-  pub has_begun : thread.begun ≡ Some begun
+-- a thread that stands as before is in the same call
+abbrev pub in_call : {V C R : Type 0} (h x : Host V C R) (t : ℕ) (c : C) (call : IsInCall h t c) → slice_get x.threads t ≡ slice_get h.threads t → IsInCall x t c
+in_call h x t c call same = record { thread = call.thread; rest = call.rest; begun = call.begun; stands = same ∙ call.stands; calls = call.calls; has_begun = call.has_begun }
 
 module _ {T V C R : Type 0} (M : Model T V C R) (u : Setup) where
   module _ (h : Host V C R) (going : is_over h.journal.flush ≡ false) where

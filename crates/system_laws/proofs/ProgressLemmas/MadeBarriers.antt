@@ -44,6 +44,7 @@ use Rattle.system_laws.specs.transaction_size.Sizes.{HaveLines}
 use Rattle.system_laws.proofs.MadeSession as opened
 use Rattle.system_laws.proofs.ProgressLemmas.MadeProgress.{barrier_answered}
 use Rattle.system_laws.proofs.ProgressLemmas.Targets.{IsFor, AreFor, none_for, steps_for, waits_for}
+use Rattle.system_laws.proofs.ProgressLemmas.BegunSteps.{in_call}
 use Rattle.system_laws.proofs.ProgressLemmas.Waiting.{starts, sends}
 use Rattle.system_laws.proofs.TransactionSizeLemmas.Hosts.{IsKept}
 use Rattle.system_laws.proofs.TransactionSizeLemmas.MadeShare as made
@@ -182,14 +183,14 @@ module _ (g : Geometry) (journal : ℕ) (wide : Bool) (limit : ℕ) (programs : 
       w = slice_index_or h.journal.flush.waits t no_wait
 
       barrier : is_durable w.kind ≡ false
-      barrier = ap is_durable (same_kind es t call.thread call.begun call.stands call.has_begun) ∙ call.barrier
+      barrier = ap is_durable (same_kind es t call.called.thread call.called.begun call.called.stands call.called.has_begun) ∙ call.barrier
 
       below : t < length h.threads
-      below = slice_get-length h.threads t call.thread call.stands
+      below = slice_get-length h.threads t call.called.thread call.called.stands
 
       -- no page is left on its list
-      pursued : session (es ++ CallStep false t ∷ []) ≡ (pursue m.model m.setup h t c call.rest w (goal_of h.journal call.begun)).host → Result es
-      pursued step = by (goal_of h.journal call.begun) refl
+      pursued : session (es ++ CallStep false t ∷ []) ≡ (pursue m.model m.setup h t c call.called.rest w (goal_of h.journal call.called.begun)).host → Result es
+      pursued step = by (goal_of h.journal call.called.begun) refl
         where
           next : ℕ → Host VolumeNow Call Reply
           next k = set_wait m.model m.setup h t (record w { target = Some k })
@@ -198,7 +199,7 @@ module _ (g : Geometry) (journal : ℕ) (wide : Bool) (limit : ℕ) (programs : 
           now_waits k x threads waits =
               let here = ap (λ ws. slice_index_or ws t no_wait) waits ∙ set_here h.journal.flush.waits t (record w { target = Some k }) (subst (λ n. t < n) (counted es) below) in
               record {
-                call = record { thread = call.thread; rest = call.rest; begun = call.begun; stands = ap (λ ths. slice_get ths t) threads ∙ call.stands; calls = call.calls; has_begun = call.has_begun; barrier = call.barrier };
+                call = record { called = in_call h x t c call.called (ap (λ ths. slice_get ths t) threads); barrier = call.barrier };
                 barrier = ap (λ (w : Wait). is_durable w.kind) here ∙ barrier;
                 target = ap (λ (w : Wait). w.target) here;
               }
@@ -207,44 +208,39 @@ module _ (g : Geometry) (journal : ℕ) (wide : Bool) (limit : ℕ) (programs : 
           waiting k true is = targeted (es ++ CallStep false t ∷ []) (ap (λ (h : Host VolumeNow Call Reply). is_over h.journal.flush) is ∙ going) k (subst (λ (h : Host VolumeNow Call Reply). IsBarrierWaiting h t c k) (sym is) (now_waits k (wanting m.model m.setup (next k)) refl refl))
           waiting k false is = targeted (es ++ CallStep false t ∷ []) (ap (λ (h : Host VolumeNow Call Reply). is_over h.journal.flush) is ∙ going) k (subst (λ (h : Host VolumeNow Call Reply). IsBarrierWaiting h t c k) (sym is) (now_waits k (next k) refl refl))
 
-          by : (goal : Goal) → goal_of h.journal call.begun ≡ goal → Result es
+          by : (goal : Goal) → goal_of h.journal call.called.begun ≡ goal → Result es
           by AnswerOk is =
-              let ended = step ∙ ap (λ goal. (pursue m.model m.setup h t c call.rest w goal).host) is in
+              let ended = step ∙ ap (λ goal. (pursue m.model m.setup h t c call.called.rest w goal).host) is in
               answered 0 0 (subst (λ l. EndsAt (session (es ++ CallStep false t ∷ [])).history (length (session l).history) t c (Answered replies.Ok)) (sym (append-nil es))
               (subst (λ (x : Host VolumeNow Call Reply). EndsAt x.history (length h.history) t c (Answered replies.Ok)) (sym ended) (slice_get-push h.history (record { thread = t; call = c; what = machine.Ends (Answered replies.Ok) }))))
-          by AwaitLastPut is = absurd (no_last h.journal call.begun call.barrier is)
+          by AwaitLastPut is = absurd (no_last h.journal call.called.begun call.barrier is)
           by (AwaitCommit k) is = free (cases_Bool (at_limit h.journal.flush))
             where
               free : (at_limit h.journal.flush ≡ true) ⊎ (at_limit h.journal.flush ≡ false) → Result es
               free (inl e) = limited es e
-              free (inr e) = later es (waiting k (k == h.journal.running.number) (step ∙ (ap (λ goal. (pursue m.model m.setup h t c call.rest w goal).host) is ∙ rw e refl)))
+              free (inr e) = later es (waiting k (k == h.journal.running.number) (step ∙ (ap (λ goal. (pursue m.model m.setup h t c call.called.rest w goal).host) is ∙ rw e refl)))
 
       no_need : w.need ≡ None
       no_need = (are_for es t).need barrier
 
-      module _ (fuel : ℕ) (low : length call.begun.list < suc fuel) (again : (es : List Event) → is_over (session es).journal.flush ≡ false → (call : IsInBarrier (session es) t c) → length call.begun.list < fuel → Result es) where
-        by_pages : session (es ++ CallStep false t ∷ []) ≡ (walk_pages m.model m.setup false h t c call.rest w call.begun).host → (o : Option (CachedPage × List (ℕ × ℕ))) → unsent_on h.pages call.begun.list ≡ o → Result es
+      module _ (fuel : ℕ) (low : length call.called.begun.list < suc fuel) (again : (es : List Event) → is_over (session es).journal.flush ≡ false → (call : IsInBarrier (session es) t c) → length call.called.begun.list < fuel → Result es) where
+        by_pages : session (es ++ CallStep false t ∷ []) ≡ (walk_pages m.model m.setup false h t c call.called.rest w call.called.begun).host → (o : Option (CachedPage × List (ℕ × ℕ))) → unsent_on h.pages call.called.begun.list ≡ o → Result es
         by_pages step None is = pursued (step ∙ rw (is, walk_pages) refl)
         by_pages step (Some next) is = free (cases_Bool (at_limit h.journal.flush))
           where
             now : Begun
-            now = record call.begun { list = next.1; sent_barrier = call.begun.sent_barrier || (is_data call.begun.kind && is_none (unsent_on h.pages next.1)) }
+            now = record call.called.begun { list = next.1; sent_barrier = call.called.begun.sent_barrier || (is_data call.called.begun.kind && is_none (unsent_on h.pages next.1)) }
 
             th : Thread Call
-            th = record { calls = c ∷ call.rest; begun = Some now }
+            th = record { calls = c ∷ call.called.rest; begun = Some now }
 
             free : (at_limit h.journal.flush ≡ true) ⊎ (at_limit h.journal.flush ≡ false) → Result es
             free (inl e) = limited es e
             free (inr e) =
-                let sent : session (es ++ CallStep false t ∷ []) ≡ set_thread m.model m.setup (send_page m.model m.setup h next.0 true (is_data call.begun.kind && is_none (unsent_on h.pages next.1))) t th = step ∙ rw (is, e, walk_pages) refl in
-                let less = shorter h.pages call.begun.list next is in
+                let sent : session (es ++ CallStep false t ∷ []) ≡ set_thread m.model m.setup (send_page m.model m.setup h next.0 true (is_data call.called.begun.kind && is_none (unsent_on h.pages next.1))) t th = step ∙ rw (is, e, walk_pages) refl in
+                let less = shorter h.pages call.called.begun.list next is in
                 later es (again (es ++ CallStep false t ∷ []) (ap (λ (h : Host VolumeNow Call Reply). is_over h.journal.flush) sent ∙ going) (record {
-                  thread = th;
-                  rest = call.rest;
-                  begun = now;
-                  stands = ap (λ (h : Host VolumeNow Call Reply). slice_get h.threads t) sent ∙ slice_get-set_same h.threads t th below;
-                  calls = refl;
-                  has_begun = refl;
+                  called = record { thread = th; rest = call.called.rest; begun = now; stands = ap (λ (h : Host VolumeNow Call Reply). slice_get h.threads t) sent ∙ slice_get-set_same h.threads t th below; calls = refl; has_begun = refl };
                   barrier = call.barrier;
                 }) (omega (arith, low, less)))
 
@@ -253,14 +249,14 @@ module _ (g : Geometry) (journal : ℕ) (wide : Bool) (limit : ℕ) (programs : 
           where
             by_target : (o : Option ℕ) → w.target ≡ o → Result es
             by_target (Some k) is = targeted es going k (record { call = call; barrier = barrier; target = is })
-            by_target None is = by_pages (step_is es ∙ sends m.model m.setup h t c call going no_need is) (unsent_on h.pages call.begun.list) refl
+            by_target None is = by_pages (step_is es ∙ sends m.model m.setup h t c call going no_need is) (unsent_on h.pages call.called.begun.list) refl
 
-    go : (fuel : ℕ) (es : List Event) → is_over (session es).journal.flush ≡ false → (call : IsInBarrier (session es) t c) → length call.begun.list < fuel → Result es
+    go : (fuel : ℕ) (es : List Event) → is_over (session es).journal.flush ≡ false → (call : IsInBarrier (session es) t c) → length call.called.begun.list < fuel → Result es
     go zero es going call low = absurd (omega (arith, low))
     go (suc fuel) es going call low = goes es going call fuel low (go fuel)
 
     pub all_answered : (es : List Event) → is_over (session es).journal.flush ≡ false → IsInBarrier (session es) t c → Result es
-    all_answered es going call = go (suc (length call.begun.list)) es going call (omega arith)
+    all_answered es going call = go (suc (length call.called.begun.list)) es going call (omega arith)
 
     module _ (es : List Event) (going : is_over (session es).journal.flush ≡ false) (next : IsNext (session es) t c) where
       abbrev Chosen : Option Reply → Host VolumeNow Call Reply
@@ -294,11 +290,6 @@ module _ (g : Geometry) (journal : ℕ) (wide : Bool) (limit : ℕ) (programs : 
                 (slice_get-push (session es).history (record { thread = t; call = c; what = machine.Ends (Answered why) })),
           )
           by None e = inl (subst (λ (x : Host VolumeNow Call Reply). IsInBarrier x t c) (sym (step ∙ (ap Chosen e ∙ opens))) (record {
-            thread = _;
-            rest = next.rest;
-            begun = _;
-            stands = slice_get-set_same (session es).threads t _ (slice_get-length (session es).threads t next.thread next.stands);
-            calls = refl;
-            has_begun = refl;
+            called = record { thread = _; rest = next.rest; begun = _; stands = slice_get-set_same (session es).threads t _ (slice_get-length (session es).threads t next.thread next.stands); calls = refl; has_begun = refl };
             barrier = kinds_are.1;
           }))

@@ -35,6 +35,7 @@ use Rattle.system_laws.specs.progress.Commits.{IsUnderWay, wanted, closing, send
 use Rattle.system_laws.specs.transaction_size.Sizes.{HaveLines}
 use Rattle.system_laws.proofs.MadeSession as opened
 use Rattle.system_laws.proofs.ProgressLemmas.CommitSteps.{under_way}
+use Rattle.system_laws.proofs.ProgressLemmas.BegunSteps.{in_call}
 use Rattle.system_laws.proofs.ProgressLemmas.Waiting.{Keeps, keeps_then, same, commit_keeps, done}
 use Rattle.system_laws.proofs.TransactionSizeLemmas.MadeShare as made
 
@@ -98,12 +99,7 @@ module _ (g : Geometry) (journal : ℕ) (wide : Bool) (limit : ℕ) (programs : 
         let k1 = after_keeps n in
         let w = k1.waits t waits.barrier in
         let call : IsInBarrier (after n) t c = record {
-          thread = waits.call.thread;
-          rest = waits.call.rest;
-          begun = waits.call.begun;
-          stands = ap (λ ths. slice_get ths t) k1.threads ∙ waits.call.stands;
-          calls = waits.call.calls;
-          has_begun = waits.call.has_begun;
+          called = in_call (session events) (after n) t c waits.call.called (ap (λ ths. slice_get ths t) k1.threads);
           barrier = waits.call.barrier;
         } in
         let step = done m.model m.setup (after n) t c call (ap has_stopped k1.taken ∙ going) k

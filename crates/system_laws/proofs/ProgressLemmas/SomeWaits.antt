@@ -26,7 +26,7 @@ events = CallStep false 0 ∷ CallStep false 0 ∷ []
 
 pub waits : IsBarrierWaiting (made_session g 128 false 100 ((c ∷ []) ∷ []) events) 0 c 1
 unfolding refusal outcome row path_of tree_now used_zones
-waits = record { call = record { thread = _; rest = _; begun = _; stands = refl; calls = refl; has_begun = refl; barrier = refl }; barrier = refl; target = refl }
+waits = record { call = record { called = record { thread = _; rest = _; begun = _; stands = refl; calls = refl; has_begun = refl }; barrier = refl }; barrier = refl; target = refl }
 
 pub under : IsUnderWay (made_session g 128 false 100 ((c ∷ []) ∷ []) events) 1
 unfolding refusal outcome row path_of tree_now used_zones

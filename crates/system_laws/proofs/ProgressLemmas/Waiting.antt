@@ -17,7 +17,7 @@ use Rattle.host_machine.specs.Outcomes as outcomes
 use Rattle.host_machine.specs.State.{Answered, Host, Setup}
 use Rattle.host_machine.proofs.RunsLemmas.Walks.{commit_walk}
 use Rattle.system_laws.specs.progress.Commits.{IsNext, IsInBarrier}
-use Rattle.system_laws.proofs.ProgressLemmas.BegunSteps.{IsInCall, unstopped, awaits_commit, sends_pages}
+use Rattle.system_laws.proofs.ProgressLemmas.BegunSteps.{unstopped, awaits_commit, sends_pages}
 
 -- a call that does not wait for the device needs no commit block durable
 no_block : (k id : ℕ) (w : Wait) → is_durable w.kind ≡ false → need_commit k id w ≡ w
@@ -84,19 +84,16 @@ module _ {T V C R : Type 0} (M : Model T V C R) (u : Setup) where
         ∙ ap (λ o. (step_call M u false h t o c next.rest).host) next.unbegun))
 
   module _ (h : Host V C R) (t : ℕ) (c : C) (call : IsInBarrier h t c) (going : is_over h.journal.flush ≡ false) where
-    abbrev in_call : IsInCall h t c
-    in_call = record { thread = call.thread; rest = call.rest; begun = call.begun; stands = call.stands; calls = call.calls; has_begun = call.has_begun }
-
     abbrev w : Wait
     w = slice_index_or h.journal.flush.waits t no_wait
 
-    committed : (k : ℕ) → is_durable w.kind ≡ false → is_submitted h.journal k ≡ true → (await_commit M u h t c call.rest w k).host ≡ (end_with M u h t c call.rest (Answered M.ok)).host
+    committed : (k : ℕ) → is_durable w.kind ≡ false → is_submitted h.journal k ≡ true → (await_commit M u h t c call.called.rest w k).host ≡ (end_with M u h t c call.called.rest (Answered M.ok)).host
     committed k barrier through = rw (through, barrier) refl
 
     -- where the transaction is through, the call is done
-    pub done : (k : ℕ) → is_durable w.kind ≡ false → w.need ≡ None → w.target ≡ Some k → is_submitted h.journal k ≡ true → (advance M u false h t).host ≡ (end_with M u h t c call.rest (Answered M.ok)).host
-    done k barrier no_need target through = awaits_commit M u h t c in_call going k no_need target ∙ committed k barrier through
+    pub done : (k : ℕ) → is_durable w.kind ≡ false → w.need ≡ None → w.target ≡ Some k → is_submitted h.journal k ≡ true → (advance M u false h t).host ≡ (end_with M u h t c call.called.rest (Answered M.ok)).host
+    done k barrier no_need target through = awaits_commit M u h t c call.called going k no_need target ∙ committed k barrier through
 
     -- until it waits for one, it sends its pages
-    pub sends : w.need ≡ None → w.target ≡ None → (advance M u false h t).host ≡ (walk_pages M u false h t c call.rest w call.begun).host
-    sends no_need no_target = sends_pages M u h t c in_call going no_need no_target
+    pub sends : w.need ≡ None → w.target ≡ None → (advance M u false h t).host ≡ (walk_pages M u false h t c call.called.rest w call.called.begun).host
+    sends no_need no_target = sends_pages M u h t c call.called going no_need no_target

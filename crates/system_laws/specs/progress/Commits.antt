@@ -37,15 +37,19 @@ module _ {V C R : Type 0} where
     pub calls : thread.calls ≡ c ∷ rest
     pub unbegun : thread.begun ≡ None
 
-  -- thread t is in a barrier call, which has begun and not ended
-  pub record IsInBarrier (h : Host V C R) (t : ℕ) (c : C) : Type 0 where
+  -- thread t is in this call, which has begun and not ended
+  pub record IsInCall (h : Host V C R) (t : ℕ) (c : C) : Type 0 where
     pub thread : Thread C
     pub rest : List C
     pub begun : Begun
     pub stands : slice_get h.threads t ≡ Some thread
     pub calls : thread.calls ≡ c ∷ rest
     pub has_begun : thread.begun ≡ Some begun
-    pub barrier : is_durable begun.kind ≡ false
+
+  -- thread t is in a barrier call, which has begun and not ended
+  pub record IsInBarrier (h : Host V C R) (t : ℕ) (c : C) : Type 0 where
+    pub called : IsInCall h t c
+    pub barrier : is_durable called.begun.kind ≡ false
 
   -- it waits for the commit block of transaction k
   pub record IsBarrierWaiting (h : Host V C R) (t : ℕ) (c : C) (k : ℕ) : Type 0 where
