@@ -1,6 +1,6 @@
 -- A session that has as many requests as it may have goes on having them.
-use Rattle.std.specs.Prelude.{◌≡◌, ◌≤◌, true, List, [], ◌∷◌, length}
-use Rattle.std.proofs.Common.{sym, ap, arith}
+use Rattle.std.specs.Prelude.{◌≡◌, ◌≤◌, true, List, [], ◌∷◌, length, refl}
+use Rattle.std.proofs.Common.{sym, ap, arith, ◌∙◌}
 use Rattle.std.proofs.lemmas.Bool.{le-leb, leb-true}
 use Rattle.std.proofs.lemmas.List.{length-append}
 use Rattle.flush_actor.specs.Part.{at_limit}
@@ -31,3 +31,9 @@ module _ {A T V C R : Type 0} (o : Over A T V C R) where
       let more = n.0 in
       let same = n.1 in
       limit_stays (stepped o h e) m.0 es (le-leb (stepped o h e).journal.flush.limit (length (stepped o h e).journal.flush.requests) (omega (arith, low, more, same)))
+
+  pub same_limit : (h : Host V C R) → AreBegun o.model.kind h.threads → (es : List Event) → (steps o h es).journal.flush.limit ≡ h.journal.flush.limit
+  same_limit h begun [] = refl
+  same_limit h begun (e ∷ es) =
+      let m = moved o h begun e in
+      same_limit (stepped o h e) m.0 es ∙ (more_requests (trace_of h) (trace_of (stepped o h e)) m.1).1

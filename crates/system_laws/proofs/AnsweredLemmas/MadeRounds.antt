@@ -2,7 +2,7 @@
 use Rattle.std.specs.List.{list_any, range_with_len}
 use Rattle.std.specs.Prelude.{◌≡◌, ◌⊎◌, ℕ, zero, suc, ◌+◌, ◌-◌, ◌==◌, ◌<◌, ◌≤◌, Bool, true, false, not, List, [], ◌∷◌, ◌++◌, length, map, drop, Option, option_map, Some, None, slice_get, slice_index_or, refl, if◌then◌else◌}
 use Rattle.std.proofs.Common.{sym, ap, subst, ◌∙◌, inl, inr, arith}
-use Rattle.std.proofs.lemmas.Bool.{cases_Bool, cases_lt, ne_eqb, lt-ltb}
+use Rattle.std.proofs.lemmas.Bool.{cases_Bool, cases_lt, ne_eqb, lt-ltb, leb-true}
 use Rattle.std.proofs.lemmas.List.{append-nil, append_assoc, drop_all, length-map}
 use Rattle.std.proofs.lemmas.Option.{none-some, same_Some, slice_get-map}
 use Rattle.blk_base.specs.Members.{In}
@@ -54,7 +54,7 @@ use Rattle.session_core.specs.run.machine.Machine.{SessionState, Start, opened_s
 use Rattle.session_core.specs.run.machine.MadeStart.{made_start, IsNew}
 use Rattle.session_core.proofs.RunLemmas.MachineLemmas.MadeStart.{made_can_start}
 use Rattle.session_core.proofs.RunLemmas.MachineLemmas.SessionRuns.{events_append, run_host, opened_holds, run_holds}
-use Rattle.system_laws.specs.answered.Rounds.{HaveEnded, RoundsFinish}
+use Rattle.system_laws.specs.answered.Rounds.{HaveEnded, RoundsFinish, IsFull}
 use Rattle.system_laws.specs.transaction_size.Sizes.{HaveLines}
 use Rattle.system_laws.proofs.MadeSession as opened
 use Rattle.system_laws.proofs.ProgressLemmas.MadeBarriers as barriers
@@ -72,7 +72,7 @@ use Rattle.system_laws.proofs.AnsweredLemmas.HoldFacts.{HoldFacts}
 use Rattle.system_laws.proofs.AnsweredLemmas.HoldParts.{IsOf}
 use Rattle.system_laws.proofs.AnsweredLemmas.Holds.{IsTimely, step_holds, has_commit, opened_holds as none_held}
 use Rattle.system_laws.proofs.AnsweredLemmas.LessFirst.{less_then, least_first}
-use Rattle.system_laws.proofs.AnsweredLemmas.LimitStays.{begun_stay, limit_stays}
+use Rattle.system_laws.proofs.AnsweredLemmas.LimitStays.{begun_stay, limit_stays, same_limit}
 use Rattle.system_laws.proofs.AnsweredLemmas.LowerHosts.{caller_lowers, commit_lowers}
 use Rattle.system_laws.proofs.AnsweredLemmas.LowerParts.{IsBelow, accepts, dispatches, receives, transfers, persists, answers as answers_come, flushes, lowers}
 use Rattle.system_laws.proofs.AnsweredLemmas.MatchingHosts.{kept_matches}
@@ -486,12 +486,20 @@ module _ {K S : Type 0} (k : SchedSteps K) (m : Machine S) (sched_valid : K → 
   more_rounds zero i = ap (λ n. repeated n one_round) (let none : 0 + i ≡ i = omega arith in none)
   more_rounds (suc n) i = ap (λ n. repeated n one_round) (let next : suc n + i ≡ suc (n + i) = omega arith in next) ∙ (ap (λ l. one_round ++ l) (more_rounds n i) ∙ sym (append_assoc one_round (repeated n one_round) (repeated i one_round)))
 
-  pub rounds_finish : (es : List CoreEvent) → RoundsFinish host es (length programs)
+  limit_is : (x : List CoreEvent) → (host x).journal.flush.limit ≡ limit
+  limit_is x = subst (λ (h : Host VolumeNow Call Reply). h.journal.flush.limit ≡ limit) (sym (run_host o k m first x)) (same_limit over_calls first.host (begun_none kind_of programs) (hosts x))
+
+  -- said by the limit with which the session began
+  by_limit : (x : List CoreEvent) → IsOver x → HaveEnded (host x) ⊎ IsFull limit (host x)
+  by_limit x (inl all) = inl all
+  by_limit x (inr full) = inr (let low = leb-true (host x).journal.flush.limit (length (host x).journal.flush.requests) full in let same = limit_is x in omega (arith, low, same))
+
+  pub rounds_finish : (es : List CoreEvent) → RoundsFinish limit host es (length programs)
   rounds_finish es = by (done_by es)
     where
-      by : DoneBy es → RoundsFinish host es (length programs)
+      by : DoneBy es → RoundsFinish limit host es (length programs)
       by (n, over_then) = record {
         rounds = n;
-        ended = λ i low. subst (λ l. IsOver (es ++ l)) (sym (more_rounds n (i - n)) ∙ ap (λ n. repeated n one_round) (let sum : n + (i - n) ≡ i = omega (arith, low) in sum))
-            (subst IsOver (append_assoc es (repeated n one_round) (repeated (i - n) one_round)) (stays_over (es ++ repeated n one_round) (repeated (i - n) one_round) over_then));
+        ended = λ i low. by_limit (es ++ repeated i one_round) (subst (λ l. IsOver (es ++ l)) (sym (more_rounds n (i - n)) ∙ ap (λ n. repeated n one_round) (let sum : n + (i - n) ≡ i = omega (arith, low) in sum))
+            (subst IsOver (append_assoc es (repeated n one_round) (repeated (i - n) one_round)) (stays_over (es ++ repeated n one_round) (repeated (i - n) one_round) over_then)));
       }
