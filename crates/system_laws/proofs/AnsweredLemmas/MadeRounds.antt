@@ -492,7 +492,11 @@ module _ {K S : Type 0} (k : SchedSteps K) (m : Machine S) (sched_valid : K → 
   -- said by the limit with which the session began
   by_limit : (x : List CoreEvent) → IsOver x → HaveEnded (host x) ⊎ IsFull limit (host x)
   by_limit x (inl all) = inl all
-  by_limit x (inr full) = inr (let low = leb-true (host x).journal.flush.limit (length (host x).journal.flush.requests) full in let same = limit_is x in omega (arith, low, same))
+  by_limit x (inr full) =
+      let low = leb-true (host x).journal.flush.limit (length (host x).journal.flush.requests) full in
+      let most = subst (λ (h : Host VolumeNow Call Reply). length h.journal.flush.requests ≤ h.journal.flush.limit) (sym (same x)) (kept x).sound.room in
+      let is = limit_is x in
+      inr (omega (arith, low, most, is))
 
   pub rounds_finish : (es : List CoreEvent) → RoundsFinish limit host es (length programs)
   rounds_finish es = by (done_by es)

@@ -23,7 +23,7 @@ session_host g journal wide limit capacity programs k m sched dev events =
 
 -- as many requests were submitted as there may be
 abbrev pub IsFull : {V C R : Type 0} → ℕ → Host V C R → Type 0
-IsFull limit h = limit ≤ length h.journal.flush.requests
+IsFull limit h = length h.journal.flush.requests ≡ limit
 
 -- After so many rounds behind these events, in which each of so many threads and then each other part takes a step, and after any
 -- more, each thread has done its whole program; or the session has as many requests as it may have.

@@ -8,10 +8,10 @@ use Rattle.host_machine.specs.State.{Ending}
 use Rattle.call_sessions.specs.promises.Entries.{EndsAt}
 use Rattle.call_sessions.specs.promises.Legal.{events_in, program_of}
 use Rattle.session_grammar.specs.declared.session_script.SessionScript.{SessionScript}
-use Rattle.session_core.specs.CallEnds.{EndsByTree}
+use Rattle.session_core.specs.CallEnds.{EndsByTree, IsAtLimit}
 use Rattle.session_core.specs.Core.{EndState, core, opening_of}
 use Rattle.session_core.specs.run.parts.Whole.{IsWhole}
-use Rattle.system_laws.specs.answered.Rounds.{HaveEnded, IsFull}
+use Rattle.system_laws.specs.answered.Rounds.{HaveEnded}
 
 -- the script with a line of so many rounds behind its events
 abbrev pub with_rounds : SessionScript → ℕ → SessionScript
@@ -21,7 +21,7 @@ with_rounds s n = record s { events = s.events ++ record { what = Round; count =
 -- submitted as the script allows.
 pub record RoundsEnd (s : SessionScript) : Type 0 where
   pub rounds : ℕ
-  pub ended : (n : ℕ) → rounds ≤ n → HaveEnded (core (with_rounds s n)).host ⊎ IsFull s.header.limit (core (with_rounds s n)).host
+  pub ended : (n : ℕ) → rounds ≤ n → HaveEnded (core (with_rounds s n)).host ⊎ IsAtLimit s (core (with_rounds s n))
 
 -- Each thread did its whole program, and each call ended with the reply that the tree of calls has for it.
 pub record AreAnswered (s : SessionScript) (end : EndState) : Type 0 where

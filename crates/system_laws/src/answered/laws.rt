@@ -36,8 +36,8 @@ use session_core::run::parts::ended_threads_did_their_programs;
 /// program, or the session to as many requests as it may have; and more rounds leave it so. In a round each thread takes a step,
 /// and then each other part. Scheduler and queues hold a request or more.
 ///
-/// Of room for calls a clause of its own speaks (`room`): a transaction that is empty fits any call, where the map of zones has
-/// at most twelve blocks, as that of each volume that is made has (`few_blocks`).
+/// `room` says that an empty transaction fits any call, where the map of zones has at most twelve blocks, as that of each volume
+/// that is made has (`few_blocks`).
 pub fn sessions_never_get_stuck<S: Scheduler, D: OrderedDev>()
     ensures rounds { (g : Geometry) (journal : ℕ) (wide : Bool) (limit capacity : ℕ) (programs : List (List Call)) (sched : S.State) (dev : D.State) (events : List CoreEvent) →
         IsSound g → LEAST_JOURNAL ≤ journal → journal ≤ MOST_JOURNAL → limit + journal < 4294967296 → HaveLines programs →
