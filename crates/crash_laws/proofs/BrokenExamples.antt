@@ -3,10 +3,10 @@ use Rattle.blk_base.specs.laws.Members.{slice_get-length}
 use Rattle.order_model.specs.declared.note.Note.TheVariants.{Page, Super, Descriptor, Body, Commit}
 use Rattle.order_model.specs.declared.note.Note.{Note}
 use Rattle.std.specs.Prelude.{◌≡◌, ◌≢◌, ℕ, zero, suc, ◌≤◌, ◌<◌, List, Option, Some, None, slice_get, refl, length, true, false, [], ◌∷◌}
-use Rattle.std.proofs.Common.{sym, subst, arith, inl, ⊎_elim}
+use Rattle.std.proofs.Common.{sym, subst, arith, inl, inr, ⊎_elim}
 use Rattle.std.proofs.lemmas.Option.{none-some}
 use Rattle.order_model.specs.declared.request.Request.{Request}
-use Rattle.order_model.specs.OrderClosed.{IsPutOf, IsPutWith, IsPut, IsFence, HasOrigin, IsKept, IsOrderClosed}
+use Rattle.order_model.specs.OrderClosed.{IsPutOf, IsPutWith, IsPut, IsFence, IsFlushAt, IsOrderedBefore, HasOrigin, IsKept, IsOrderClosed}
 use Rattle.log_model.proofs.Marks.{keep≢set}
 use Rattle.crash_laws.specs.laws.BrokenExamples.{unfenced, without_body, late_with, page_late, without_page}
 use Rattle.crash_laws.specs.laws.Clauses.{OrderClause}
@@ -84,6 +84,17 @@ module _ where
   behind (suc (suc (suc zero))) i j lo hi fence put = absurd (no_put j hi put)
   behind (suc (suc (suc (suc b)))) i j lo hi fence put = absurd fence
 
+  no_flush : (f : ℕ) → IsFlushAt unfenced.requests f → ⊥
+  no_flush zero flush = cc
+  no_flush (suc zero) flush = cc
+  no_flush (suc (suc zero)) flush = cc
+  no_flush (suc (suc (suc zero))) flush = cc
+  no_flush (suc (suc (suc (suc f)))) flush = flush
+
+  closed : (i j : ℕ) → IsOrderedBefore unfenced.requests i j → IsKept unfenced.requests without_body.origins i
+  closed i j (inl before) = behind before.fence.0 i j before.fence.1 before.fence.2 before.fence.3 before.second
+  closed i j (inr before) = absurd (no_flush before.flush.0 before.flush.3)
+
 pub unfenced_closed : IsOrderClosed unfenced.base unfenced.requests without_body.image without_body.origins
 unfenced_closed = record {
   blocks = refl;
@@ -91,7 +102,7 @@ unfenced_closed = record {
   block_of = block_of;
   body_of = body_of;
   base_of = base_of;
-  closed = λ i j before kept. behind before.fence.0 i j before.fence.1 before.fence.2 before.fence.3 before.second;
+  closed = λ i j before kept. closed i j before;
 }
 
 pub unfenced_found : found unfenced without_body ≡ 1
@@ -153,6 +164,10 @@ module _ where
   last_put (suc (suc (suc (suc zero)))) put = omega arith
   last_put (suc (suc (suc (suc (suc j))))) put = absurd (none-some put.0 put.1)
 
+  late_before : (i j : ℕ) → IsOrderedBefore page_late.requests i j → i < 4
+  late_before i j (inl before) = omega (arith, before.fence.1, before.fence.2, last_put j before.second)
+  late_before i j (inr before) = omega (arith, before.flush.1, before.flush.2, last_put j before.second)
+
 pub late_closed : IsOrderClosed page_late.base page_late.requests without_page.image without_page.origins
 late_closed = record {
   blocks = refl;
@@ -160,11 +175,7 @@ late_closed = record {
   block_of = late_block_of;
   body_of = late_body_of;
   base_of = late_base_of;
-  closed = λ i j before kept.
-      let lo = before.fence.1 in
-      let hi = before.fence.2 in
-      let last = last_put j before.second in
-      early_kept i (omega arith);
+  closed = λ i j before kept. early_kept i (late_before i j before);
 }
 
 pub late_found : found page_late without_page ≡ 1

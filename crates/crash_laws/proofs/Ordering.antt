@@ -34,7 +34,7 @@ module _ {base : List (List ℕ)} {requests : List Request} {image : List (List 
   -- What a barrier keeps apart from a kept put is kept.
   pub before_kept_is_kept : (i j : ℕ) → IsOrderedPut requests i → Fenced requests i j → IsKept requests origins j → IsKept requests origins i
   before_kept_is_kept i j firm fenced kept =
-      closed.closed i j (record { first = firm.put; ordered = firm.ordered; second = (kept.block, kept.put); fence = fenced }) kept
+      closed.closed i j (inl (record { first = firm.put; ordered = firm.ordered; second = (kept.block, kept.put); fence = fenced })) kept
 
   -- A put that is a barrier itself is kept where any later put is.
   pub barrier_before_kept : (b j : ℕ) → IsOrderedPut requests b → IsFence requests b → b < j → IsKept requests origins j → IsKept requests origins b

@@ -14,7 +14,7 @@ use Rattle.order_model.specs.declared.request.Kind.{Kind}
 use Rattle.order_model.specs.declared.request.Kind.TheVariants.{Put, Flush}
 use Rattle.order_model.specs.declared.request.Request.{Request}
 use Rattle.order_model.specs.Received.{ids_of, all_ids, IsBarrier}
-use Rattle.order_model.specs.OrderClosed.{is_flush, kind_block, IsFence, IsOrderedBefore}
+use Rattle.order_model.specs.OrderClosed.{is_flush, kind_block, IsFence, IsFencedBefore}
 use Rattle.order_model.specs.Device.{NoneTwice}
 use Rattle.order_model.specs.Single.{parts_for, flush_for, command_of_request, command_for}
 use Rattle.order_model.specs.Carrying.{IsCarriedBy, IsSentIn, WasAccepted, Carries, AreAtIds, FlushesAreBarriers, sent_alone}
@@ -131,7 +131,7 @@ barrier_at qs b flags fence =
     is-barrier (map command_for qs) b (command_for r.0) (slice_get-map_some command_for qs b r.0 r.1)
     (sym (fence_barrier r.0.barrier r.0.kind (flags b r.0 r.1)) ∙ r.2)
 
-ordered : (qs : List Request) (i j l : ℕ) → AreAtIds qs → FlushesAreBarriers qs → IsOrderedBefore qs i j → IsSentIn (sent_alone qs) j l
+ordered : (qs : List Request) (i j l : ℕ) → AreAtIds qs → FlushesAreBarriers qs → IsFencedBefore qs i j → IsSentIn (sent_alone qs) j l
     → (k : ℕ) × (b : ℕ) × IsSentIn (sent_alone qs) i k × (k ≤ b) × (b < l) × IsBarrier (map command_for qs) b
 ordered qs i j l all flags before h =
     let r = some_and (λ (q : Request). IsTrue q.ordered) (slice_get qs i) before.ordered in

@@ -15,9 +15,9 @@ use Rattle.order_model.specs.declared.request.Kind.{Kind}
 use Rattle.order_model.specs.declared.request.Kind.TheVariants.{Put, Flush}
 use Rattle.order_model.specs.declared.request.Request.{Request}
 use Rattle.order_model.specs.Received.{all_parts, ids_of, all_ids, IsBarrier}
-use Rattle.order_model.specs.OrderClosed.{kind_block, IsPutOf, IsOrderedBefore}
+use Rattle.order_model.specs.OrderClosed.{kind_block, IsPutOf, IsFencedBefore, IsFlushAt}
 use Rattle.order_model.specs.Device.{NoneTwice}
-use Rattle.order_model.specs.Carrying.{SchedSeen, IsCarriedBy, IsSentIn, IsFlushAt, Carries}
+use Rattle.order_model.specs.Carrying.{SchedSeen, IsCarriedBy, IsSentIn, Carries}
 use Rattle.order_model.specs.Merging.{ungrouped, first_flush, merged, IsGroup}
 use Rattle.order_model.proofs.Received.{all_ids-append, is-barrier, barrier-is}
 
@@ -351,7 +351,7 @@ flush_command s f x flush h =
     flush_some h.command.flush h.request.id (subst (λ k. IsCarriedBy h.request.id k h.command) kind h.carried)
 
 -- a barrier stands in no group before another command of it
-ordered : (s : SchedSeen) (gs : List (List Command)) (i j l : ℕ) → AreSent s gs → IsOrderedBefore s.accepted i j → IsSentIn (by_groups s gs) j l
+ordered : (s : SchedSeen) (gs : List (List Command)) (i j l : ℕ) → AreSent s gs → IsFencedBefore s.accepted i j → IsSentIn (by_groups s gs) j l
     → (k : ℕ) × (b : ℕ) × IsSentIn (by_groups s gs) i k × (k ≤ b) × (b < l) × IsBarrier (map merged gs) b
 ordered s gs i j l v before h =
     let t = from_group s gs j l v h in

@@ -1,5 +1,5 @@
 -- What is on the medium where the commands that a device took carry what was submitted.
-use Rattle.std.proofs.Common.{◌≡◌, ℕ, ◌+◌, ◌<◌, ◌≤◌, ◌||◌, List, length, take, Some, slice_get, refl, sym, ap, subst, ◌∙◌, arith, ⊎_elim, IsTrue, IsSomeAnd}
+use Rattle.std.proofs.Common.{◌≡◌, ℕ, ◌+◌, ◌<◌, ◌≤◌, ◌||◌, List, length, take, Some, slice_get, refl, sym, ap, subst, ◌∙◌, arith, inl, inr, ⊎_elim, IsTrue, IsSomeAnd}
 use Rattle.std.specs.Option.{option_and_then}
 use Rattle.std.proofs.lemmas.Bool.{cases_lt}
 use Rattle.std.proofs.lemmas.List.{length-map}
@@ -12,10 +12,10 @@ use Rattle.order_model.specs.declared.request.Kind.{Kind}
 use Rattle.order_model.specs.declared.request.Kind.TheVariants.{Put, Flush}
 use Rattle.order_model.specs.declared.request.Request.{Request}
 use Rattle.order_model.specs.Received.{all_parts, part_at, first_part, command_of_part, ids_of, IsBarrier, IsFlush}
-use Rattle.order_model.specs.OrderClosed.{is_flush, kind_block, kind_body, IsPutOf, IsPutWith, IsOrderedBefore, HasOrigin, IsKept, IsOrderClosed, KeepsFlushed}
+use Rattle.order_model.specs.OrderClosed.{is_flush, kind_block, kind_body, IsPutOf, IsPut, IsPutWith, IsFlushAt, IsFencedBefore, IsOrderedBefore, HasOrigin, IsKept, IsOrderClosed, KeepsFlushed}
 use Rattle.order_model.specs.Device.{Seen, completed, origin_ids, IsPartKept, IsSurface, KeepsEpochOrder, KeepsFlush, Completes}
-use Rattle.order_model.specs.Carrying.{SchedSeen, IsCarriedBy, IsSentIn, IsFlushAt, Carries, AreAtIds, IsPrefixOf, Fits}
-use Rattle.order_model.proofs.Received.{place_of, part_at-place, command_of_part-first, command_of_part-lt, part_at-first, part-lt, command_of_part-mono, flush-is, id_once, In-part-id, In-flush-id}
+use Rattle.order_model.specs.Carrying.{SchedSeen, IsCarriedBy, IsSentIn, Carries, AreAtIds, IsPrefixOf, Fits}
+use Rattle.order_model.proofs.Received.{place_of, part_at-place, command_of_part-first, command_of_part-lt, part_at-first, part-lt, command_of_part-mono, is-barrier, flush-is, id_once, In-part-id, In-flush-id}
 use Rattle.order_model.proofs.OriginIds.{id_at, placed, origin_of, no_origin}
 
 -- ---- prefixes
@@ -266,9 +266,9 @@ kept_part qs s d i run kept =
 
 -- ---- the law
 
--- what is ordered before a request that was accepted is so among what was accepted
-accepted_before : (qs : List Request) (s : SchedSeen) (d : Seen) (i j : ℕ) → IsRun qs s d → j < length s.accepted → IsOrderedBefore qs i j → IsOrderedBefore s.accepted i j
-accepted_before qs s d i j run lt before =
+-- what is fenced off or flushed before a request that was accepted is so among what was accepted
+accepted_fenced : (qs : List Request) (s : SchedSeen) (d : Seen) (i j : ℕ) → IsRun qs s d → j < length s.accepted → IsFencedBefore qs i j → IsFencedBefore s.accepted i j
+accepted_fenced qs s d i j run lt before =
     let b = before.fence.0 in
     let le = before.fence.1 in
     let less = before.fence.2 in
@@ -278,6 +278,37 @@ accepted_before qs s d i j run lt before =
       second = (before.second.0, accepted_put qs s d j before.second.0 run lt before.second.1);
       fence = (b, le, less, subst (λ o. IsSomeAnd o (λ (r : Request). IsTrue (r.barrier || is_flush r.kind))) (prefix-same s.accepted qs b run.fits.accepted (omega arith)) before.fence.3);
     }
+
+accepted_flush : (qs : List Request) (s : SchedSeen) (d : Seen) (f : ℕ) → IsRun qs s d → f < length s.accepted → IsFlushAt qs f → IsFlushAt s.accepted f
+accepted_flush qs s d f run lt flush =
+    subst (λ o. IsSomeAnd o (λ (r : Request). r.kind ≡ Flush)) (prefix-same s.accepted qs f run.fits.accepted lt) flush
+
+-- a flush was sent as a barrier command
+flush_barrier : (s : SchedSeen) (f k : ℕ) → Carries s → IsFlushAt s.accepted f → IsSentIn s f k → IsBarrier s.sent_out k
+flush_barrier s f k v flush h =
+    let kind : h.request.kind ≡ Flush = subst (λ o. IsSomeAnd o (λ (r : Request). r.kind ≡ Flush)) h.taken flush in
+    let id = subst (λ t. IsCarriedBy h.request.id t h.command) kind h.carried in
+    is-barrier s.sent_out k h.command h.sent (v.flush_flag h.command h.request.id (slice_get-In s.sent_out k h.command h.sent) id)
+
+-- What is ordered before a request that was sent was sent, and a barrier command stands at or after its command and before that of
+-- the other: where a flush stands between, it is that of the flush.
+sent_before : (qs : List Request) (s : SchedSeen) (d : Seen) (i j l : ℕ) → IsRun qs s d → IsOrderedBefore qs i j → IsSentIn s j l
+    → (k : ℕ) × (b : ℕ) × IsSentIn s i k × (k ≤ b) × (b < l) × IsBarrier s.sent_out b
+sent_before qs s d i j l run (inl before) h =
+    run.carries.ordered i j l (accepted_fenced qs s d i j run (sent-accepted s j l h) before) h
+sent_before qs s d i j l run (inr before) h =
+    let f = before.flush.0 in
+    let less = before.flush.2 in
+    let near = sent-accepted s j l h in
+    let flush = accepted_flush qs s d f run (omega arith) before.flush.3 in
+    let g = run.carries.after_flush f j l less flush h in
+    let e = run.carries.before_flush i f g.0 before.flush.1 flush g.1 in
+    let lt = e.2 in
+    (e.0, g.0, e.1, omega arith, g.2, flush_barrier s f g.0 run.carries flush g.1)
+
+first_put : (qs : List Request) (i j : ℕ) → IsOrderedBefore qs i j → IsPut qs i
+first_put qs i j (inl before) = before.first
+first_put qs i j (inr before) = before.first
 
 -- a barrier command that was taken
 taken_barrier : (qs : List Request) (s : SchedSeen) (d : Seen) (b : ℕ) → IsRun qs s d → b < length d.took → IsBarrier s.sent_out b → IsBarrier d.took b
@@ -292,12 +323,13 @@ closed qs s d i j run epochs before kept =
     let r = request_of qs s d y.place y.part run y.there in
     let l = command_of_part d.took y.place in
     let sent : IsSentIn s j l = subst (λ n. IsSentIn s n l) y.named r.sent in
-    let o = run.carries.ordered i j l (accepted_before qs s d i j run (sent-accepted s j l sent) before) sent in
+    let o = sent_before qs s d i j l run before sent in
+    let put = first_put qs i j before in
     let b = o.1 in
     let le = o.3 in
     let less = o.4 in
     let within = r.taken in
-    let x = part_for qs s d i o.0 before.first.0 run before.first.1 o.2 (omega arith) in
+    let x = part_for qs s d i o.0 put.0 run put.1 o.2 (omega arith) in
     kept_put qs s d i x.place x.part run x.there x.named
     (epochs.epochs x.place y.place b x.within
     (taken_barrier qs s d b run (omega arith) o.5)

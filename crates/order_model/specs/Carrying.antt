@@ -1,6 +1,6 @@
 -- What it means that commands carry requests. A request is named by its place in the order in which the
 -- requests were accepted, a command by its place in the order in which the commands were sent out.
-use Rattle.std.specs.Prelude.{◌≡◌, ℕ, ◌+◌, ◌<◌, ◌≤◌, ◌||◌, ◌==◌, ◌⊎◌, Bool, List, [], length, map, count_by, take, Some, true, false, is_some, IsSomeAnd, slice_get, if◌then◌else◌}
+use Rattle.std.specs.Prelude.{◌≡◌, ℕ, ◌+◌, ◌<◌, ◌≤◌, ◌||◌, ◌==◌, ◌⊎◌, Bool, List, [], length, map, count_by, take, Some, true, false, is_some, slice_get, if◌then◌else◌}
 use Rattle.blk_base.specs.Members.{In}
 use Rattle.order_model.specs.declared.part.Part.{Part}
 use Rattle.order_model.specs.declared.command.Command.{Command}
@@ -8,7 +8,7 @@ use Rattle.order_model.specs.declared.command.Priority.TheVariants.{Simple, Orde
 use Rattle.order_model.specs.declared.request.Kind.{Kind}
 use Rattle.order_model.specs.declared.request.Kind.TheVariants.{Put, Flush}
 use Rattle.order_model.specs.declared.request.Request.{Request}
-use Rattle.order_model.specs.OrderClosed.{is_flush, IsPutOf, IsOrderedBefore}
+use Rattle.order_model.specs.OrderClosed.{is_flush, IsPutOf, IsFlushAt, IsFencedBefore}
 use Rattle.order_model.specs.Single.{command_for}
 use Rattle.order_model.specs.Received.{all_ids, IsBarrier}
 use Rattle.order_model.specs.Device.{Seen, NoneTwice}
@@ -55,10 +55,6 @@ pub record WasAccepted (s : SchedSeen) (id : ℕ) (kind : Kind) : Type 0 where
   pub named : request.id ≡ id
   pub same : request.kind ≡ kind
 
--- at place i stands a flush
-abbrev pub IsFlushAt : List Request → ℕ → Type 0
-IsFlushAt requests i = IsSomeAnd (slice_get requests i) (λ r. r.kind ≡ Flush)
-
 -- The commands that were sent out carry the requests that were accepted and do not wait.
 pub record Carries (s : SchedSeen) : Type 0 where
   pub few : length s.accepted ≤ s.limit
@@ -72,9 +68,9 @@ pub record Carries (s : SchedSeen) : Type 0 where
   pub flushes : (c : Command) (id : ℕ) → In c s.sent_out → c.flush ≡ Some id → WasAccepted s id Flush
   -- a flush has no part, and every other command has some
   pub whole : (c : Command) → In c s.sent_out → is_some c.flush ≡ (length c.parts == 0)
-  -- what is ordered before a request that was sent was sent, and a barrier command stands at or after its
+  -- what is fenced off before a request that was sent was sent, and a barrier command stands at or after its
   -- command and before that of the other
-  pub ordered : (i j l : ℕ) → IsOrderedBefore s.accepted i j → IsSentIn s j l → (k : ℕ) × (b : ℕ) × IsSentIn s i k × (k ≤ b) × (b < l) × IsBarrier s.sent_out b
+  pub ordered : (i j l : ℕ) → IsFencedBefore s.accepted i j → IsSentIn s j l → (k : ℕ) × (b : ℕ) × IsSentIn s i k × (k ≤ b) × (b < l) × IsBarrier s.sent_out b
   -- puts of one block are sent in order, in commands of their own
   pub blocks : (i j l block : ℕ) → i < j → IsPutOf s.accepted i block → IsPutOf s.accepted j block → IsSentIn s j l → (k : ℕ) × IsSentIn s i k × (k < l)
   -- a flush is sent behind all that was accepted before it, and before all that was accepted after it

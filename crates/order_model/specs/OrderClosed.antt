@@ -1,7 +1,7 @@
 -- What the host asks for: one list of requests, in which the request at place i has the id i; and what it
 -- means that a power cut kept their order. After the partial order of Won et al., Barrier-Enabled IO Stack
 -- for Flash Storage, FAST 2018. Nothing here knows of queues, caches or epochs.
-use Rattle.std.specs.Prelude.{◌≡◌, ℕ, ◌<◌, ◌≤◌, ◌||◌, Bool, true, false, List, length, Option, Some, None, IsTrue, IsSomeAnd, slice_get}
+use Rattle.std.specs.Prelude.{◌≡◌, ℕ, ◌<◌, ◌≤◌, ◌||◌, ◌⊎◌, Bool, true, false, List, length, Option, Some, None, IsTrue, IsSomeAnd, slice_get}
 use Rattle.std.specs.Option.{option_and_then}
 use Rattle.blk_base.specs.Members.{In}
 use Rattle.order_model.specs.declared.completion.Completion.{Completion}
@@ -44,13 +44,27 @@ IsOrdered requests i = IsSomeAnd (slice_get requests i) (λ r. IsTrue r.ordered)
 abbrev pub IsFence : List Request → ℕ → Type 0
 IsFence requests i = IsSomeAnd (slice_get requests i) (λ r. IsTrue (r.barrier || is_flush r.kind))
 
--- Request i is ordered before request j: i is an order-preserving put, j is a put, and a barrier or a flush
+-- at place i stands a flush
+abbrev pub IsFlushAt : List Request → ℕ → Type 0
+IsFlushAt requests i = IsSomeAnd (slice_get requests i) (λ r. r.kind ≡ Flush)
+
+-- Request i is fenced off before request j: i is an order-preserving put, j is a put, and a barrier or a flush
 -- stands at or after i and before j.
-pub record IsOrderedBefore (requests : List Request) (i j : ℕ) : Type 0 where
+pub record IsFencedBefore (requests : List Request) (i j : ℕ) : Type 0 where
   pub first : IsPut requests i
   pub ordered : IsOrdered requests i
   pub second : IsPut requests j
   pub fence : (b : ℕ) × (i ≤ b) × (b < j) × IsFence requests b
+
+-- Request i is flushed before request j: both are puts, order-preserving or not, and a flush stands between them.
+pub record IsFlushedBefore (requests : List Request) (i j : ℕ) : Type 0 where
+  pub first : IsPut requests i
+  pub second : IsPut requests j
+  pub flush : (f : ℕ) × (i < f) × (f < j) × IsFlushAt requests f
+
+-- Request i is ordered before request j.
+abbrev pub IsOrderedBefore : List Request → ℕ → ℕ → Type 0
+IsOrderedBefore requests i j = IsFencedBefore requests i j ⊎ IsFlushedBefore requests i j
 
 -- the origin of the block is the request with this id
 abbrev pub HasOrigin : List (Option ℕ) → ℕ → ℕ → Type 0

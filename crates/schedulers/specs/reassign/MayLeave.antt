@@ -1,8 +1,8 @@
 -- Which requests may leave a scheduler, which of them leaves as the barrier, and what keeps the scheduler from
 -- accepting: said of the requests that were accepted, by their places, and of those of them that wait.
 use Rattle.std.specs.Prelude.{◌≡◌, ℕ, ◌<◌, ◌≤◌, ◌⊎◌}
-use Rattle.order_model.specs.OrderClosed.{IsPut, IsPutOf, IsOrdered, IsFence}
-use Rattle.order_model.specs.Carrying.{SchedSeen, IsWaitingAt, IsFlushAt}
+use Rattle.order_model.specs.OrderClosed.{IsPut, IsPutOf, IsOrdered, IsFence, IsFlushAt}
+use Rattle.order_model.specs.Carrying.{SchedSeen, IsWaitingAt}
 
 -- The request at place i waits, and none that waits stands in its way: before a put stands each put of its block
 -- that was accepted earlier, before a flush everything else. Nothing else is asked: a put may overtake all others.

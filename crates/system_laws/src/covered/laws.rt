@@ -3,7 +3,7 @@ ghost use Rattle.std.specs.Prelude.{◌≡◌, ◌⊎◌, ◌≤◌, ◌<◌, �
 ghost use Rattle.std.specs.Map.{keys_of};
 ghost use Rattle.blk_base.specs.Members.{In};
 ghost use Rattle.order_model.specs.declared.completion.Completion.TheVariants.{Flushed};
-ghost use Rattle.order_model.specs.OrderClosed.{IsPut, IsOrdered, IsFence, IsKept};
+ghost use Rattle.order_model.specs.OrderClosed.{IsPut, IsOrdered, IsFence, IsFlushAt, IsKept};
 ghost use Rattle.tree_model.specs.declared.call.Call.{Call};
 ghost use Rattle.tree_model.specs.declared.node.Directory.{Directory};
 ghost use Rattle.tree_model.specs.declared.node.File.{File};
@@ -29,11 +29,13 @@ ghost use Rattle.session_core.specs.declared.report.SessionReport.{SessionReport
 ghost use Rattle.system_laws.specs.covered.Calls.{Counts, HasPath, IsAnsweredOk, IsOnFile, IsThereSince};
 
 /// A law, which does nothing when it is called: where a write survived, each order-preserving write survived that was
-/// submitted before it with a barrier or a flush at or behind that one and before this one; and where a flush completed, all
-/// writes that were submitted before it did.
+/// submitted before it with a barrier or a flush at or behind that one and before this one, and each write at all with a flush
+/// between; and where a flush completed, all writes that were submitted before it did.
 pub fn writes_survive_in_order()
     ensures order { (s : SessionScript) (end : EndState) (r : SessionReport) → HeadlineOn s end r → (i b j : ℕ) → let requests = end.host.journal.flush.requests in
         IsPut requests i → IsOrdered requests i → i ≤ b → IsFence requests b → b < j → IsPut requests j → IsKept requests r.cut.origins j → IsKept requests r.cut.origins i }
+    ensures across { (s : SessionScript) (end : EndState) (r : SessionReport) → HeadlineOn s end r → (i f j : ℕ) → let requests = end.host.journal.flush.requests in
+        IsPut requests i → i < f → IsFlushAt requests f → f < j → IsPut requests j → IsKept requests r.cut.origins j → IsKept requests r.cut.origins i }
     ensures flushed { (s : SessionScript) (end : EndState) (r : SessionReport) → HeadlineOn s end r → (i flush : ℕ) → let requests = end.host.journal.flush.requests in
         IsPut requests i → i < flush → In (Flushed flush) r.cut.trace.sent.items → IsKept requests r.cut.origins i }
 {}

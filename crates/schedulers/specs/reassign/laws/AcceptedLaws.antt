@@ -10,12 +10,11 @@ use Rattle.blk_base.specs.laws.Members.{IsAscending-push, In-push, In-push_left,
 use Rattle.order_model.specs.declared.command.Command.{Command}
 use Rattle.order_model.specs.declared.request.Kind.TheVariants.{Flush}
 use Rattle.order_model.specs.declared.request.Request.{Request}
-use Rattle.order_model.specs.OrderClosed.{is_flush, IsPutOf, IsFence}
+use Rattle.order_model.specs.OrderClosed.{is_flush, IsPutOf, IsFence, IsFlushAt}
 use Rattle.schedulers.specs.declared.reassign.closing.Closing.TheVariants as closings
 use Rattle.schedulers.specs.reassign.Epoch.{Waiting, is_open, is_barrier_closing, is_full, can_accept, unflagged, closing_of}
 use Rattle.order_model.specs.Single.{command_of_request}
 use Rattle.schedulers.specs.reassign.Sched.{SchedState, accepted, seen_of}
-use Rattle.order_model.specs.Carrying.{IsFlushAt}
 use Rattle.schedulers.specs.reassign.Scheduler.{IsAcceptable}
 use Rattle.schedulers.specs.reassign.laws.Valid.{Went, IsFrom, IsPassed, StandsFor, IsEpochClosing, IsFlushClosing, IsValid}
 use Rattle.schedulers.specs.reassign.laws.WentLaws.{is_flush_closing, went-length, command-id, true-is_flush, holds-length, holds-push_below, holds-push_cases}

@@ -13,14 +13,13 @@ use Rattle.order_model.specs.declared.command.Command.{Command}
 use Rattle.order_model.specs.declared.request.Kind.{Kind}
 use Rattle.order_model.specs.declared.request.Kind.TheVariants.{Put, Flush}
 use Rattle.order_model.specs.declared.request.Request.{Request}
-use Rattle.order_model.specs.OrderClosed.{is_flush, kind_block, IsPutOf, IsFence}
+use Rattle.order_model.specs.OrderClosed.{is_flush, kind_block, IsPutOf, IsFence, IsFlushAt}
 use Rattle.order_model.specs.laws.ArrivalLaws.{In-without, without-In}
 use Rattle.schedulers.specs.declared.reassign.closing.Closing.{Closing}
 use Rattle.schedulers.specs.declared.reassign.closing.Closing.TheVariants as closings
 use Rattle.schedulers.specs.reassign.Epoch.{Waiting, is_open, is_barrier_closing, have_one_block, stands_before, may_leave, eligible, without, waits_ordered, leaves_flagged, picked}
 use Rattle.order_model.specs.Single.{command_of_request}
 use Rattle.schedulers.specs.reassign.Sched.{SchedState, opened, sent, dispatched}
-use Rattle.order_model.specs.Carrying.{IsFlushAt}
 use Rattle.schedulers.specs.reassign.laws.Valid.{Went, IsPassed, StandsFor, IsEpochClosing, IsFlushClosing, IsValid}
 use Rattle.schedulers.specs.reassign.laws.WentLaws.{is_flush_closing, went-length, is_flush-true, true-is_flush, holds_at, at_holds, holds-length, holds-push_left, same_waiting, command-id}
 

@@ -9,8 +9,8 @@ use Rattle.blk_base.specs.laws.Members.{list_any-none, slice_get-length, list_al
 use Rattle.order_model.specs.declared.request.Kind.{Kind}
 use Rattle.order_model.specs.declared.request.Kind.TheVariants.{Put, Flush}
 use Rattle.order_model.specs.declared.request.Request.{Request}
-use Rattle.order_model.specs.OrderClosed.{is_flush, kind_block, IsPut, IsPutOf, IsOrdered, IsFence}
-use Rattle.order_model.specs.Carrying.{SchedSeen, IsWaitingAt, IsFlushAt}
+use Rattle.order_model.specs.OrderClosed.{is_flush, kind_block, IsPut, IsPutOf, IsOrdered, IsFence, IsFlushAt}
+use Rattle.order_model.specs.Carrying.{SchedSeen, IsWaitingAt}
 use Rattle.schedulers.specs.declared.reassign.closing.Closing.{Closing}
 use Rattle.schedulers.specs.declared.reassign.closing.Closing.TheVariants as closings
 use Rattle.schedulers.specs.reassign.Epoch.{Waiting, is_open, is_blocked, is_barrier_closing, have_one_block, stands_before, may_leave, without, waits_ordered, leaves_flagged}

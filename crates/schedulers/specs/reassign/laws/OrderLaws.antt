@@ -9,7 +9,7 @@ use Rattle.order_model.specs.declared.command.Command.{Command}
 use Rattle.order_model.specs.declared.command.Priority.TheVariants.{Simple, Ordered}
 use Rattle.order_model.specs.declared.request.Kind.TheVariants.{Put, Flush}
 use Rattle.order_model.specs.declared.request.Request.{Request}
-use Rattle.order_model.specs.OrderClosed.{is_flush, IsOrderedBefore}
+use Rattle.order_model.specs.OrderClosed.{is_flush, IsFencedBefore}
 use Rattle.order_model.specs.Single.{command_of_request}
 use Rattle.order_model.specs.declared.part.Part.{Part}
 use Rattle.order_model.specs.Received.{ids_of, all_ids, IsBarrier}
@@ -118,7 +118,7 @@ none_twice s v i j id at_i at_j =
     let same : f.place ≡ g.place = v.ids f.place g.place f.went.request g.went.request f.went.accepted g.went.accepted (f_id ∙ sym g_id) in
     v.once g.place i j (subst (λ p. Went s p i) same f.went) g.went
 
-ordered : (s : SchedState) → IsValid s → (i j l : ℕ) → IsOrderedBefore s.accepted i j → IsSentIn (seen_of s) j l → (k : ℕ) × (b : ℕ) × IsSentIn (seen_of s) i k × (k ≤ b) × (b < l) × IsBarrier s.sent_out b
+ordered : (s : SchedState) → IsValid s → (i j l : ℕ) → IsFencedBefore s.accepted i j → IsSentIn (seen_of s) j l → (k : ℕ) × (b : ℕ) × IsSentIn (seen_of s) i k × (k ≤ b) × (b < l) × IsBarrier s.sent_out b
 ordered s v i j l o h =
     let g = sent_went s j l v h in
     let near : j < length s.accepted = slice_get-length s.accepted j g.request g.accepted in

@@ -6,12 +6,11 @@ use Rattle.blk_base.specs.Members.{In, IsAscending}
 use Rattle.blk_base.specs.laws.Members.{In-slice_get, filter-In, list_all-In, slice_get-length}
 use Rattle.order_model.specs.declared.request.Kind.TheVariants.{Flush}
 use Rattle.order_model.specs.declared.request.Request.{Request}
-use Rattle.order_model.specs.OrderClosed.{is_flush}
+use Rattle.order_model.specs.OrderClosed.{is_flush, IsFlushAt}
 use Rattle.schedulers.specs.declared.reassign.closing.Closing.{Closing}
 use Rattle.schedulers.specs.declared.reassign.closing.Closing.TheVariants as closings
 use Rattle.schedulers.specs.reassign.Epoch.{Waiting, is_open, is_blocked, have_one_block, stands_before, may_leave, eligible}
 use Rattle.schedulers.specs.reassign.Sched.{SchedState}
-use Rattle.order_model.specs.Carrying.{IsFlushAt}
 use Rattle.schedulers.specs.reassign.laws.Valid.{IsValid}
 use Rattle.schedulers.specs.reassign.laws.WentLaws.{is_flush-true, holds_at}
 

@@ -3,12 +3,11 @@ use Rattle.std.specs.Prelude.{◌≡◌, ℕ, ◌+◌, ◌<◌, ◌≤◌, ◌||
 use Rattle.blk_base.specs.Members.{In, IsAscending}
 use Rattle.order_model.specs.declared.command.Command.{Command}
 use Rattle.order_model.specs.declared.request.Request.{Request}
-use Rattle.order_model.specs.OrderClosed.{is_flush, IsPutOf, IsOrdered, IsFence}
+use Rattle.order_model.specs.OrderClosed.{is_flush, IsPutOf, IsOrdered, IsFence, IsFlushAt}
 use Rattle.schedulers.specs.declared.reassign.closing.Closing.TheVariants as closings
 use Rattle.schedulers.specs.reassign.Epoch.{Waiting, is_open, is_blocked, unflagged}
 use Rattle.order_model.specs.Single.{command_of_request}
 use Rattle.order_model.specs.Received.{IsBarrier}
-use Rattle.order_model.specs.Carrying.{IsFlushAt}
 use Rattle.schedulers.specs.reassign.Sched.{SchedState}
 
 -- command k is that of the request at place i; a flush left with the flag
