@@ -9,7 +9,6 @@ use Rattle.volume_ops.specs.Reads.{answer}
 use Rattle.volume_steps.specs.Now.{VolumeNow, room_of}
 use Rattle.crash_laws.specs.Headline.{HoldsPrefix}
 use Rattle.crash_laws.specs.History.{History}
-use Rattle.crash_laws.specs.LegalHistory.{root_alone}
 use Rattle.crash_laws.specs.PromiseRules.{Covers, IsLaterKept, IsSettled}
 use Rattle.crash_laws.specs.Session.{Medium, Session}
 use Rattle.crash_laws.specs.Volumes.{WalkEnd}
@@ -90,8 +89,8 @@ module _ (s : Opening) (h : Host VolumeNow ByteCall Reply) where
 
   same_tree : (k : ℕ) → tree_behind s (plain_host h) k ≡ tree_after_transactions s h k
   same_tree k =
-      ap (λ cs. tree_after_entries (room_of s.geometry) (root_alone s.geometry.width) 0 cs (cut_of h.cuts (length (plain_host h).history) k)) (acting_as h.history)
-      ∙ ap (λ n. tree_after_entries (room_of s.geometry) (root_alone s.geometry.width) 0 (calls_of h.history) (cut_of h.cuts n k)) entries
+      ap (λ cs. tree_after_entries (room_of s.geometry) s.tree.tree s.first cs (cut_of h.cuts (length (plain_host h).history) k)) (acting_as h.history)
+      ∙ ap (λ n. tree_after_entries (room_of s.geometry) s.tree.tree s.first (calls_of h.history) (cut_of h.cuts n k)) entries
 
   pub begins_as : (es : List (Entry ByteCall Reply)) → count (is_sync_begin kind_of) (map (entry_as plain_call) es) ≡ count (is_sync_begin (over s).model.kind) es
   begins_as [] = refl

@@ -55,4 +55,4 @@ module _ {C D : Type 0} (f : C → D) where
 
   -- the same with that model, and all else as it was
   abbrev pub over_as : {A T V R : Type 0} → Over A T V D R → Over A T V C R
-  over_as o = record { model = model_as o.model; setup = o.setup; program = o.program; place = o.place; base = o.base; format = o.format; reserved = o.reserved }
+  over_as o = record { model = model_as o.model; setup = o.setup; program = o.program; place = o.place; base = o.base; format = o.format; reserved = o.reserved; freeable = o.freeable }

@@ -9,7 +9,6 @@ use Rattle.tree_model.specs.Calls.{Tree}
 use Rattle.tree_model.specs.Histories.{tree_after_entries}
 use Rattle.volume_ops.specs.Volume.{disk_of}
 use Rattle.volume_steps.specs.Now.{VolumeNow, room_of}
-use Rattle.crash_laws.specs.LegalHistory.{root_alone}
 use Rattle.crash_laws.specs.Recovery.{IsRecovered}
 use Rattle.crash_laws.specs.Session.{Medium}
 use Rattle.crash_laws.specs.Volumes.{WalkEnd}
@@ -28,7 +27,7 @@ use Rattle.minix_host.specs.Calls.{kind_of}
 use Rattle.minix_host.specs.PlainTrees.{PlainTree}
 use Rattle.minix_host.specs.Runs.{HasTreeLike, acting}
 pub use Rattle.call_sessions.specs.made.MadeSessions.{made_now, made_opening, made_ring}
-use Rattle.minix_host.specs.Sessions.{Opening, model_of, over, Stands}
+use Rattle.minix_host.specs.Sessions.{Opening, model_from, over, Stands}
 use Rattle.call_sessions.specs.CallsAs.{host_as}
 
 -- the calls of all programs write bytes
@@ -46,13 +45,14 @@ plain_host h = host_as plain_call h
 -- what a session is over
 abbrev pub call_over : Opening → Over WalkEnd PlainTree VolumeNow Call Reply
 call_over s = record {
-  model = model_of (λ (c : Call). c) s.geometry;
+  model = model_from (λ (c : Call). c) s.geometry s.tree s.first;
   setup = (over s).setup;
   program = (over s).program;
   place = (over s).place;
   base = s.image;
   format = s.format;
   reserved = (over s).reserved;
+  freeable = s.freeable;
 }
 
 -- the host of a session that is opened, and that after these steps
@@ -69,7 +69,7 @@ acting_call e = acting (λ c. c) e
 
 -- the tree after the calls of the first k transactions
 abbrev pub tree_behind : Opening → Host VolumeNow Call Reply → ℕ → Tree
-tree_behind s h k = tree_after_entries (room_of s.geometry) (root_alone s.geometry.width) 0 (map acting_call h.history) (cut_of h.cuts (length h.history) k)
+tree_behind s h k = tree_after_entries (room_of s.geometry) s.tree.tree s.first (map acting_call h.history) (cut_of h.cuts (length h.history) k)
 
 -- What holds of a session: `closed` are the bodies and revokes of its closed transactions.
 pub record KeepsCalls (s : Opening) (h : Host VolumeNow Call Reply) : Type 0 where

@@ -14,7 +14,8 @@ use Rattle.crash_laws.specs.Rules.{OrderRules}
 use Rattle.crash_laws.specs.laws.Submitting.{Submitting}
 use Rattle.crash_laws.specs.laws.Example.{program, history, logged, put}
 use Rattle.crash_laws.specs.Found.{found}
-use Rattle.crash_laws.specs.Recovery.{recovered_disk, HasVersion}
+use Rattle.crash_laws.specs.PageRules.{place_at}
+use Rattle.crash_laws.specs.Recovery.{recovered_disk, IsOf, Sent, Opened, HasVersion}
 use Rattle.crash_laws.specs.Session.{image_of}
 use Rattle.crash_laws.proofs.Example.{at_start, commit_listed, first_mark, page_unlogged, id_of, elsewhere}
 use Rattle.crash_laws.proofs.OrderSteps.{order_rules_step}
@@ -183,7 +184,11 @@ late_found = refl
 
 -- no version of the page is there
 pub late_missing : HasVersion program history page_late without_page 1 5 0 2 → ⊥
-late_missing t = none≢id t.origin t.held
+late_missing t = by t.source
+  where
+    by : IsOf page_late without_page 5 0 t.version (place_at program history page_late 1 5 0) → ⊥
+    by (Sent origin note held) = none≢id origin held
+    by (Opened e none) = let le = t.later in omega arith
 
 -- ---- the order rules that the second session keeps
 
@@ -285,7 +290,7 @@ commit_clause = commit_request_clause program late_commit 1 (record {
   tail = λ i freed e h. let lt : i < 3 = slice_get-length (late_with 3).notes i Super h.note in (2, omega arith, refl);
   bodies = λ b x set. let m = (first_mark b x set).0 in omega arith;
   revokes = λ b i reserved. i;
-  logged = λ b read. inl read;
+  logged = λ b read. inl (inl read);
 })
 
 page_clause : OrderClause program late_page
@@ -296,6 +301,7 @@ page_clause = page_request_clause program late_page 5 0 2 (record {
   low = omega arith;
   free = λ i. ⊎_elim (λ e. omega arith) (λ none. none) i;
   unlogged = λ k x set c. absurd (page_unlogged k x set);
+  freed = λ i. absurd i;
 })
 
 pub late_order : OrderRules program page_late

@@ -8,8 +8,8 @@ use Rattle.volume_ops.specs.Reads.{Reads}
 use Rattle.log_model.specs.Marks.{Set, mark_in, transactions_from}
 use Rattle.crash_laws.specs.laws.Changes.{Told, IsChange, HasZones, IsPresent}
 use Rattle.crash_laws.specs.History.{History, Calm, last_write, HasTrees}
-use Rattle.crash_laws.specs.laws.HostFacts.{Host, IsLive, IsDead, HostFacts}
-use Rattle.crash_laws.specs.PageRules.{IsPageTo}
+use Rattle.crash_laws.specs.laws.HostFacts.{Host, IsLive, IsDead, IsOpenedDead, HostFacts}
+use Rattle.crash_laws.specs.PageRules.{IsPageTo, place_at}
 use Rattle.crash_laws.specs.Session.{Session, image_of}
 use Rattle.crash_laws.proofs.Histories.{stays_mapped}
 
@@ -89,6 +89,44 @@ module _ {A : Type 0} {program : Reads A} {h : History A} {s : Session} {old new
       }))
       (cases_Bool (h.maps new.now f i))
 
+  opened_live_or_dead : (f i z : ℕ) → IsLive h old f i 0 z ⊎ IsOpenedDead h s old N f i z → IsLive h new f i 0 z ⊎ IsOpenedDead h s new N f i z
+  opened_live_or_dead f i z (inr dead) =
+      let up = change.now in
+      let hi = dead.in_time in
+      inr (record {
+        k = dead.k;
+        entry = dead.entry;
+        later = dead.later;
+        in_time = omega arith;
+        unmapped = dead.unmapped;
+        closed = λ lt. let same = change.running in dead.closed (omega arith);
+        given_up = ⊎_elim inl (λ w. inr (w.0, waits_on z dead.k w.1)) dead.given_up;
+      })
+  opened_live_or_dead f i z (inl live) =
+      let up = change.now in
+      let before = facts.zone_mapped f i z live.there in
+      ⊎_elim
+      (λ there. inl (record {
+        calm = λ m lo hi un.
+            ⊎_elim
+            (λ early. live.calm m lo (omega arith) un)
+            (λ last. let e : m ≡ new.now = omega arith in false≢true (sym un.after ∙ ap (λ n. h.maps n f i) e ∙ there))
+            (cases_lt m new.now);
+        there = change.stays f i z live.there there;
+      }))
+      (λ gone.
+      let e : new.now - 1 ≡ old.now = omega arith in
+      inr (record {
+        k = old.running;
+        entry = new.now;
+        later = omega arith;
+        in_time = omega arith;
+        unmapped = record { before = ap (λ n. h.maps n f i) e ∙ before; after = gone };
+        closed = λ lt. let same = change.running in absurd (omega arith);
+        given_up = inr (⊎_elim (λ q. omega arith) (λ q. omega arith) facts.closed, (change.freed z (change.dropped f i z live.there gone)).1);
+      }))
+      (cases_Bool (h.maps new.now f i))
+
   sent_version : (o f i v z y : ℕ) → IsPageTo s o f i v y → new.zone f i ≡ Some z → v ≤ last_write h f i new.now
   sent_version o f i v z y page there =
       let up = change.now in
@@ -131,6 +169,7 @@ module _ {A : Type 0} {program : Reads A} {h : History A} {s : Session} {old new
             same_Some z zone.0 (sym there ∙ stayed) ∙ facts.keeps_zone k f i zone.0 (omega arith) maps calm_old zone.1;
         cuts_now = λ k lt. let le = facts.cuts_now k (omega arith) in omega arith;
         live_or_dead = λ o f i v z page. live_or_dead o f i v z page (facts.live_or_dead o f i v z page);
+        opened_live_or_dead = λ f i there. opened_live_or_dead f i (place_at program h s 0 f i) (facts.opened_live_or_dead f i there);
       }
 
 -- ---- what the plan needs of the volume
@@ -149,7 +188,7 @@ present_step h s old new told change before b meta =
     let same = change.running in
     ⊎_elim
     (λ body. inl (bodies ∙ body ∙ ap Set (sym volume)))
-    (λ o. inr (bodies ∙ o.0, volume ∙ o.1 ∙ ap (λ k. image_of s (k - 1) b) (sym same), ⊎_elim inl (λ set. inr (set.0, ap (λ k. mark_in (transactions_from s.transactions 1 (k - 1)) b) same ∙ set.1)) o.2))
+    (λ o. inr (bodies ∙ o.0, volume ∙ o.1 ∙ ap (λ k. image_of s (k - 1) b) (sym same), ⊎_elim (λ older. inl (⊎_elim inl (λ keep. inr (keep.0, ap (λ k. mark_in (transactions_from s.transactions 1 (k - 1)) b) same ∙ keep.1)) older)) (λ set. inr (set.0, ap (λ k. mark_in (transactions_from s.transactions 1 (k - 1)) b) same ∙ set.1)) o.2))
     (before b was))
     (cases_Bool (told.touched b)))
     (cases_Bool (told.revoked b))

@@ -1,5 +1,5 @@
 -- From the plan to the commit block: what the pages owe to it, also those that are sent in between.
-use Rattle.std.specs.Prelude.{◌≡◌, ℕ, ◌+◌, ◌-◌, ◌<◌, true, Some}
+use Rattle.std.specs.Prelude.{◌≡◌, ℕ, ◌+◌, ◌-◌, ◌<◌, ◌≤◌, true, Some}
 use Rattle.std.proofs.Common.{sym, ap, subst, ◌∙◌, ⊎_elim, arith}
 use Rattle.std.proofs.lemmas.Bool.{cases_lt}
 use Rattle.order_model.specs.declared.note.Note.TheVariants.{Page, Commit}
@@ -18,7 +18,7 @@ use Rattle.crash_laws.specs.laws.Submitting.{Submitting, after}
 use Rattle.crash_laws.proofs.Growing.{note_old}
 use Rattle.crash_laws.proofs.Histories.{mapped_was_written}
 use Rattle.crash_laws.proofs.HostSteps.{page_cases, transactions_agree, place_agrees}
-use Rattle.crash_laws.proofs.PlanSteps.{page_given_up, page_in_place, files_after}
+use Rattle.crash_laws.proofs.PlanSteps.{page_given_up, page_in_place, opened_in_place, files_after}
 use Rattle.crash_laws.proofs.SendSteps.{no_body_now}
 
 -- it holds at the plan
@@ -28,6 +28,7 @@ committing_at_plan trees order facts plan all_closed = record {
   place = λ o f i v z page maps calm back. page_in_place trees order facts plan all_closed o f i v z page maps calm;
   logged = λ o f i v z x page set. page_given_up trees order facts plan all_closed o f i v z x page set;
   files = λ f i x maps set. files_after trees order facts plan all_closed f i x maps set;
+  stays = λ f i there calm. opened_in_place trees order facts plan all_closed f i there calm;
 }
 
 module _ {A : Type 0} {program : Reads A} {h : History A} {host : Host} {N : ℕ} (p : Submitting) (trees : HasTrees h) (facts : HostFacts program h p.session host N)
@@ -60,10 +61,11 @@ module _ {A : Type 0} {program : Reads A} {h : History A} {host : Host} {N : ℕ
             (ap (λ txs. mark_in txs (place_at program h p.session (host.running - 1) f i)) (sym (transactions_agree p trees facts agree (host.running - 1) lt))
             ∙ ap (mark_in (transactions_from p.transactions 1 (host.running - 1))) (sym (place_agrees p trees facts agree (host.running - 1) f i lt))
             ∙ set);
+        stays = λ f i there calm. old.stays f i there calm ∙ sym (place_agrees p trees facts agree (host.running - 1) f i lt);
       }
 
   -- so the commit block owes of pages only that the changed files' were sent
-  pub commit_pages_clause : ((f i : ℕ) → h.changes (host.running - 1) f ≡ true → h.maps (h.cut (host.running - 1)) f i ≡ true
+  pub commit_pages_clause : ((f i : ℕ) → h.changes (host.running - 1) f ≡ true → h.maps (h.cut (host.running - 1)) f i ≡ true → 1 ≤ last_write h f i (h.cut (host.running - 1))
       → (o : ℕ) × HasNote p.session o (Page f i (last_write h f i (h.cut (host.running - 1)))) × IsOrdered p.session.requests o × IsClosedOff p.session.requests o)
       → IsCommitting program h p.session (host.running - 1) → CommitPagesClause program h p (host.running - 1)
   commit_pages_clause sent old =
@@ -76,5 +78,6 @@ module _ {A : Type 0} {program : Reads A} {h : History A} {host : Host} {N : ℕ
             (ap (λ txs. mark_in txs (place_at program h p.session (host.running - 1) f i)) (sym (transactions_agree p trees facts agree (host.running - 1) lt))
             ∙ ap (mark_in (transactions_from p.transactions 1 (host.running - 1))) (sym (place_agrees p trees facts agree (host.running - 1) f i lt))
             ∙ set);
+        stays = λ f i there calm. old.stays f i there calm ∙ sym (place_agrees p trees facts agree (host.running - 1) f i lt);
         sent = sent;
       }

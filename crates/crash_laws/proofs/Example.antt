@@ -34,11 +34,12 @@ base_image : BaseImage (with_first 0)
 base_image = record {
   start = refl;
   reserved = λ b i. ⊎_elim (λ e. omega arith) (λ none. absurd none) i;
-  plain = λ p seq place. no_commit_header p seq place.0 place.1;
+  freeable = λ b i. absurd i;
+  plain = λ p seq place since. no_commit_header p seq place.0 place.1;
 }
 
 pub at_start : OrderRules program (with_first 0)
-at_start = rules_at_start program (with_first 0) refl refl (omega arith) (omega arith, omega arith) base_image (λ b i. i)
+at_start = rules_at_start program (with_first 0) refl refl (omega arith) (omega arith, omega arith) base_image (λ b i. inl i)
 
 -- ---- what lists have
 
@@ -104,6 +105,7 @@ one = page_request_clause program page_written 5 0 2 (record {
   low = omega arith;
   free = λ i. ⊎_elim (λ e. omega arith) (λ none. none) i;
   unlogged = λ k x set c. absurd (page_unlogged k x set);
+  freed = λ i. absurd i;
 })
 
 pub two : OrderClause program first_super
@@ -186,7 +188,7 @@ five = commit_request_clause program first_commit 1 (record {
   tail = λ i freed e h. let lt : i < 4 = slice_get-length (with_first 4).notes i Super h.note in (3, omega arith, refl);
   bodies = λ b x set. let m = (first_mark b x set).0 in omega arith;
   revokes = λ b i reserved. i;
-  logged = λ b read. inl read;
+  logged = λ b read. inl (inl read);
 })
 
 pub six : OrderClause program home_written
@@ -236,6 +238,7 @@ eight = page_request_clause program page_overwritten 5 0 3 (record {
   low = omega arith;
   free = λ i. ⊎_elim (λ e. omega arith) (λ none. none) i;
   unlogged = λ k x set c. absurd (page_unlogged k x set);
+  freed = λ i. absurd i;
 })
 
 -- what the second superblock freed
@@ -327,7 +330,7 @@ eleven = commit_request_clause program second_commit 2 (record {
   tail = λ i freed e h. let lt : i < 10 = slice_get-length (with_first 10).notes i Super h.note in (9, omega arith, refl);
   bodies = λ b x set. let m = second_mark b x set in omega arith;
   revokes = λ b i reserved. i;
-  logged = λ b read. inl read;
+  logged = λ b read. inl (inl read);
 })
 
 pub twelve : OrderClause program flushed

@@ -73,13 +73,16 @@ same_maps (suc (suc k)) f i m unchanged lo hi =
 
 pub has_trees : HasTrees history
 has_trees = record {
-  empty = λ f i. and_right (is_page f i) (nat_le 2 0) refl;
+  unwritten = λ f i. and_right (is_page f i) ((0 == 2) || (0 == 3)) refl;
   mapped = mapped_by;
   written = written_there;
   first = refl;
   cuts = cuts_rise;
   same = same_maps;
 }
+
+nothing_before : (f i : ℕ) → history.maps 0 f i ≡ true → ⊥
+nothing_before f i there = false≢true (sym (and_right (is_page f i) (nat_le 2 0) refl) ∙ there)
 
 -- ---- the pages of the list
 
@@ -136,6 +139,7 @@ first_page = page_page_clause program history page_written 5 0 2 2 refl refl (re
   versions = λ o w y t. absurd (none_yet o 5 0 w y t);
   another = λ o g j w t other. absurd (none_yet o g j w 2 t);
   logged = λ k x c set. absurd (page_unlogged k x set);
+  given_up = λ g j there at apart. absurd (nothing_before g j there);
 })
 
 second_page : PageClause program history page_overwritten
@@ -146,6 +150,7 @@ second_page = page_page_clause program history page_overwritten 5 0 3 2 refl ref
   versions = λ o w y t. let e = (only_page o 5 0 w y t).2 in omega arith;
   another = λ o g j w t other. let e = only_page o g j w 2 t in absurd (other (sym e.0, sym e.1));
   logged = λ k x c set. absurd (page_unlogged k x set);
+  given_up = λ g j there at apart. absurd (nothing_before g j there);
 })
 
 -- the page that the first transaction needs
@@ -160,7 +165,8 @@ first_commit_pages = commit_page_clause program history first_commit 1 refl (rec
   place = λ o f i v z t mapped before behind. early_zone o f i v z t;
   logged = λ o f i v z x t set. absurd (page_unlogged 1 x (subst (λ y. mark_in (transactions_from logged 1 1) y ≡ Set x) (early_zone o f i v z t) set));
   files = λ f i x mapped set. page_unlogged 1 x set;
-  sent = λ f i changed mapped. (0, sent_first f i mapped, refl, (3, omega arith, refl));
+  stays = λ f i there calm. absurd (nothing_before f i there);
+  sent = λ f i changed mapped wrote. (0, sent_first f i mapped, refl, (3, omega arith, refl));
 })
 
 second_commit_pages : PageClause program history second_commit
@@ -168,7 +174,8 @@ second_commit_pages = commit_page_clause program history second_commit 2 refl (r
   place = λ o f i v z t mapped before behind. late_zone o f i v z t;
   logged = λ o f i v z x t set. absurd (page_unlogged 2 x (subst (λ y. mark_in (transactions_from logged 1 2) y ≡ Set x) (late_zone o f i v z t) set));
   files = λ f i x mapped set. page_unlogged 2 x set;
-  sent = λ f i changed mapped. absurd (false≢true (sym (and_right (f == 5) (2 == 1) refl) ∙ changed));
+  stays = λ f i there calm. absurd (nothing_before f i there);
+  sent = λ f i changed mapped wrote. absurd (false≢true (sym (and_right (f == 5) (2 == 1) refl) ∙ changed));
 })
 
 -- ---- all of it
@@ -188,8 +195,8 @@ one_more p old order pages = record {
 nothing_kept : IsKept (with_first 0)
 nothing_kept = record {
   order = at_start;
-  pages = pages_at_start program (with_first 0) refl history has_trees;
-  versions = record { sent = λ k c f i commit changed mapped. absurd (none-some (Commit k) commit) };
+  pages = pages_at_start program (with_first 0) refl history (λ f i there. absurd (nothing_before f i there));
+  versions = record { sent = λ k c f i commit changed mapped wrote. absurd (none-some (Commit k) commit) };
 }
 
 is_other : (p : Submitting) → ((f i v : ℕ) → p.note ≡ Page f i v → ⊥) → ((k : ℕ) → p.note ≡ Commit k → ⊥) → PageClause program history p

@@ -1,14 +1,15 @@
 -- The history grows: what was told of old entries stays.
-use Rattle.std.specs.Prelude.{◌≡◌, ℕ, zero, suc, ◌-◌, ◌≤◌, true, if◌then◌else◌, refl}
+use Rattle.std.specs.Prelude.{◌≡◌, ℕ, zero, suc, ◌-◌, ◌<◌, ◌≤◌, true, if◌then◌else◌, refl}
 use Rattle.std.proofs.Common.{sym, ap, subst, ◌∙◌, inl, inr, ⊎_elim, arith}
 use Rattle.order_model.specs.declared.note.Note.TheVariants.{Page}
 use Rattle.order_model.specs.OrderClosed.{IsPutWith}
+use Rattle.volume_ops.specs.Volume.{disk_of}
 use Rattle.volume_ops.specs.Reads.{Reads, answer}
 use Rattle.log_model.specs.Marks.{mark_in, transactions_from}
 use Rattle.crash_laws.specs.laws.Extending.{Extends}
 use Rattle.crash_laws.specs.History.{History, IsUnmapped, Calm, last_write}
-use Rattle.crash_laws.specs.PageRules.{place_at, PageOrder, DataBeforeCommit}
-use Rattle.crash_laws.specs.Session.{Session, HasNote, IsSubmitted, Submitted, image_of}
+use Rattle.crash_laws.specs.PageRules.{IsPageTo, place_at, PageOrder, DataBeforeCommit}
+use Rattle.crash_laws.specs.Session.{Session, HasNote, IsSubmitted, Before, Submitted, image_of}
 
 module _ {A : Type 0} {h more : History A} {s : Session} {now : ℕ} (ext : Extends h more s now) where
   pub unmapped_old : (f i m : ℕ) → m ≤ now → IsUnmapped more f i m → IsUnmapped h f i m
@@ -64,13 +65,28 @@ module _ {A : Type 0} {h more : History A} {s : Session} {now : ℕ} (ext : Exte
           (λ e. inr (e.0, e.1, e.2, let le = e.3 in let same = ext.cuts (k - 1) (Submitted e.0 e.1) in omega arith))
           (old.logged o f i v z k x t pos sub set);
       files = λ k f i x sub m set. old.files k f i x sub (maps_at_cut k f i sub m) (ap (mark_in (transactions_from s.transactions 1 k)) (sym (place_same k f i sub)) ∙ set);
+      opened = λ f i there.
+          let o = old.opened f i (sym (ext.maps 0 f i (omega arith)) ∙ there) in
+          let e = place_same 0 f i (Before refl) in
+          (subst (λ z. z < s.journal) (sym e) o.0, ap (disk_of s.base) e ∙ o.1 ∙ sym (ext.content f i 0 (omega arith)));
+      stays = λ f i k there sub calm.
+          place_same 0 f i (Before refl)
+          ∙ old.stays f i k (sym (ext.maps 0 f i (omega arith)) ∙ there) sub (calm_old f i 0 (h.cut k) (ext.within k sub) (subst (λ n. Calm more f i 0 n) (ext.cuts k sub) calm))
+          ∙ sym (place_same k f i sub);
+      given_up = λ o f i g j w there t apart.
+          let x = old.given_up o f i g j w (sym (ext.maps 0 f i (omega arith)) ∙ there) (subst (IsPageTo s o g j w) (place_same 0 f i (Before refl)) t) apart in
+          let sub : IsSubmitted s x.k = Submitted x.commit x.committed in
+          let in_time = ext.within x.k sub in
+          let hi = x.within in
+          let same = ext.cuts x.k sub in
+          record { k = x.k; commit = x.commit; committed = x.committed; before = x.before; entry = x.entry; later = x.later; within = omega arith; unmapped = unmapped_new f i x.entry (omega arith) x.unmapped };
     }
 
     pub data_before_commit_grows : DataBeforeCommit program h s → DataBeforeCommit program more s
     data_before_commit_grows old = record {
-      sent = λ k c f i g ch m.
+      sent = λ k c f i g ch m wrote.
           let sub : IsSubmitted s k = Submitted c g in
-          let x = old.sent k c f i g (sym (ext.changes k c f g) ∙ ch) (maps_at_cut k f i sub m) in
           let last : last_write h f i (h.cut k) ≡ last_write more f i (more.cut k) = sym (last_write_old f i (h.cut k) (ext.within k sub)) ∙ ap (last_write more f i) (sym (ext.cuts k sub)) in
+          let x = old.sent k c f i g (sym (ext.changes k c f g) ∙ ch) (maps_at_cut k f i sub m) (subst (λ v. 1 ≤ v) (sym last) wrote) in
           (x.0, subst (λ v. HasNote s x.0 (Page f i v)) last x.1, x.2, x.3);
     }

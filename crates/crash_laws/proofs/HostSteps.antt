@@ -10,7 +10,7 @@ use Rattle.volume_ops.specs.Volume.{disk_of}
 use Rattle.volume_ops.specs.Reads.{Reads, answer}
 use Rattle.log_model.specs.Marks.{Transaction, mark_in, body_after, transactions_from}
 use Rattle.crash_laws.specs.History.{History, Calm, last_write, HasTrees}
-use Rattle.crash_laws.specs.laws.HostFacts.{Host, IsDead, HostFacts}
+use Rattle.crash_laws.specs.laws.HostFacts.{Host, IsDead, IsOpenedDead, HostFacts}
 use Rattle.crash_laws.specs.PageRules.{IsPageTo, place_at}
 use Rattle.crash_laws.specs.laws.Plans.{PlanFacts}
 use Rattle.crash_laws.specs.Rules.{CommitOrder}
@@ -51,6 +51,17 @@ module _ {A : Type 0} {program : Reads A} {h : History A} {host : Host} {N : ℕ
     given_up = ⊎_elim (λ c. inl (c.0, note_old p c.0 (Commit dead.k) c.1, c.2, c.3)) inr dead.given_up;
   }
 
+  opened_dead_after : (f i z : ℕ) → IsOpenedDead h p.session host N f i z → IsOpenedDead h (after p) host N f i z
+  opened_dead_after f i z dead = record {
+    k = dead.k;
+    entry = dead.entry;
+    later = dead.later;
+    in_time = dead.in_time;
+    unmapped = dead.unmapped;
+    closed = dead.closed;
+    given_up = ⊎_elim (λ c. inl (c.0, note_old p c.0 (Commit dead.k) c.1, c.2)) inr dead.given_up;
+  }
+
   -- ---- a page, or a request that is neither a page nor a commit block
 
   pub sent_step : ((f i v z : ℕ) → p.note ≡ Page f i v → kind_block p.request.kind ≡ Some z → (host.zone f i ≡ Some z) × (v ≡ last_write h f i host.now)) → ((k : ℕ) → p.note ≡ Commit k → ⊥) → HostFacts program h (after p) host N
@@ -82,6 +93,7 @@ module _ {A : Type 0} {program : Reads A} {h : History A} {host : Host} {N : ℕ
         let w = mapped_was_written trees f i host.now (facts.zone_mapped f i z q.0) in
         inl (record { calm = subst (λ a. Calm h f i a host.now) (sym q.1) w.calm; there = q.0 }))
         (page_cases o f i v z t);
+    opened_live_or_dead = λ f i there. ⊎_elim inl (λ d. inr (opened_dead_after f i (place_at program h p.session 0 f i) d)) (facts.opened_live_or_dead f i there);
   }
 
   -- ---- the commit block of the transaction that was planned
@@ -128,6 +140,19 @@ module _ {A : Type 0} {program : Reads A} {h : History A} {host : Host} {N : ℕ
         (facts.live_or_dead o f i v z l))
         (λ n. absurd (page_commit f i v (sym n.1 ∙ note)))
         (page_cases o f i v z t);
+    opened_live_or_dead = λ f i there.
+        ⊎_elim
+        (λ live. inl (record { calm = live.calm; there = live.there }))
+        (λ dead. inr (record {
+          k = dead.k;
+          entry = dead.entry;
+          later = dead.later;
+          in_time = dead.in_time;
+          unmapped = dead.unmapped;
+          closed = dead.closed;
+          given_up = opened_given_up f i (place_at program h p.session 0 f i) dead;
+        }))
+        (facts.opened_live_or_dead f i there);
   }
     where
       same_tx : (a b : ℕ) → Commit a ≡ Commit b → a ≡ b
@@ -151,6 +176,24 @@ module _ {A : Type 0} {program : Reads A} {h : History A} {host : Host} {N : ℕ
             new_place p,
             subst (λ j. HasNote (after p) (new_place p) (Commit j)) e (subst (HasNote (after p) (new_place p)) note (note_new p)),
             slice_get-length p.session.notes o (Page f i v) page.note,
+            dead.closed (omega arith),
+          ))
+          (cases_lt (N + 1) dead.k))
+          dead.given_up
+
+      opened_given_up : (f i z : ℕ) → (dead : IsOpenedDead h p.session host N f i z) → ((c : ℕ) × IsCommit (after p) dead.k c × (dead.entry ≤ h.cut dead.k)) ⊎ ((N + 1 < dead.k) × (quarantine z ≡ Some dead.k))
+      opened_given_up f i z dead =
+          ⊎_elim
+          (λ c. inl (c.0, note_old p c.0 (Commit dead.k) c.1, c.2))
+          (λ w.
+          let above = w.0 in
+          ⊎_elim
+          (λ later. inr (later, waiting z dead.k w.1 (λ e. absurd (omega arith))))
+          (λ now.
+          let e : N + 1 ≡ dead.k = omega arith in
+          inl (
+            new_place p,
+            subst (λ j. HasNote (after p) (new_place p) (Commit j)) e (subst (HasNote (after p) (new_place p)) note (note_new p)),
             dead.closed (omega arith),
           ))
           (cases_lt (N + 1) dead.k))
@@ -201,4 +244,20 @@ module _ {A : Type 0} {program : Reads A} {h : History A} {s : Session} {host : 
           given_up = dead.given_up;
         }))
         (facts.live_or_dead o f i v z t);
+    opened_live_or_dead = λ f i there.
+        ⊎_elim
+        (λ live. inl (record { calm = live.calm; there = live.there }))
+        (λ dead. inr (record {
+          k = dead.k;
+          entry = dead.entry;
+          later = dead.later;
+          in_time = dead.in_time;
+          unmapped = dead.unmapped;
+          closed = λ lt.
+              ⊎_elim (λ old. dead.closed old)
+              (λ ge. let e : dead.k ≡ host.running = omega arith in let c = ap h.cut e in let at = plan.cut in let in_time = dead.in_time in omega arith)
+              (cases_lt dead.k host.running);
+          given_up = dead.given_up;
+        }))
+        (facts.opened_live_or_dead f i there);
   }

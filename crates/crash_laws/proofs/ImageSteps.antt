@@ -1,5 +1,5 @@
 -- The clauses of notes, of images and of pages, at a new request.
-use Rattle.std.specs.Prelude.{◌≡◌, ℕ, ◌+◌, ◌-◌, ◌<◌, ◌≤◌, ◌⊎◌, true, List, [], ◌∷◌, ◌++◌, length, Some}
+use Rattle.std.specs.Prelude.{◌≡◌, ℕ, ◌+◌, ◌-◌, ◌<◌, ◌≤◌, ◌⊎◌, true, List, [], ◌∷◌, ◌++◌, length, Some, refl}
 use Rattle.std.specs.Option.{option_and_then}
 use Rattle.std.proofs.Common.{sym, ap, subst, ◌∙◌, inl, inr, ⊎_elim, arith, length-append}
 use Rattle.std.proofs.lemmas.Option.{none-some}
@@ -16,7 +16,7 @@ use Rattle.crash_laws.specs.History.{History, Calm, last_write}
 use Rattle.crash_laws.specs.Ordering.{Fenced}
 use Rattle.crash_laws.specs.laws.PageClauses.{PageClause}
 use Rattle.crash_laws.specs.PageRules.{IsPageTo, IsGivenUp, place_at, PageOrder, DataBeforeCommit}
-use Rattle.crash_laws.specs.Rules.{FitsNotes, CommitOrder, Images, IsHomeOf, is_page_or_flush}
+use Rattle.crash_laws.specs.Rules.{FitsNotes, CommitOrder, Images, IsFreedBefore, IsHomeOf, is_page_or_flush}
 use Rattle.crash_laws.specs.Session.{HasNote, IsCommit, CommitBefore, IsSubmitted, Before, Submitted, image_of}
 use Rattle.crash_laws.specs.laws.Submitting.{Submitting, after, new_place, IsCommitted}
 use Rattle.crash_laws.proofs.Growing.{closed_off, note_old, note_cases, log_cases, commit_before_old, put_old, put_new, new_put, put_back, request_new, fenced_old, ordered_old, ordered_new, body_old}
@@ -99,12 +99,13 @@ module _ {A : Type 0} (program : Reads A) (p : Submitting) (order : CommitOrder 
     logged = λ k b sub read.
         ⊎_elim
         (λ o.
-        ⊎_elim inl (λ set. inr (set.0, marks_old k b o ∙ set.1))
+        ⊎_elim (λ older. inl (⊎_elim inl (λ keep. inr (keep.0, marks_old k b o ∙ keep.1)) older)) (λ set. inr (set.0, marks_old k b o ∙ set.1))
         (old.logged k b o (subst (λ f. In b (blocks_read f program)) (image_old k o) read)))
         (λ n. new.logged k b n read)
         (submitted_cases k sub);
     home = λ i b h. home i b (note_cases p i (Home b) h);
     pages = λ i f x v z k y h put set c. pages i f x v z k y (note_cases p i (Page f x v) h) put set c;
+    freed = λ i f x v z h put old_block. freed i f x v z (note_cases p i (Page f x v) h) put old_block;
   }
     where
       home : (i b : ℕ) → HasNote p.session i (Home b) ⊎ ((i ≡ new_place p) × (p.note ≡ Home b)) → IsHomeOf (after p) i b
@@ -141,6 +142,14 @@ module _ {A : Type 0} (program : Reads A) (p : Submitting) (order : CommitOrder 
           commit_before_new (k + 1) i h.0
           (new.page f x v z k y h.1 (new_put p z (subst (λ j. IsPutOf (p.session.requests ++ p.request ∷ []) j z) h.0 put)) (sym (marks_old k z (Submitted o.0 o.1)) ∙ set) (o.0, o.1))
 
+      freed : (i f x v z : ℕ) → HasNote p.session i (Page f x v) ⊎ ((i ≡ new_place p) × (p.note ≡ Page f x v)) → IsPutOf (p.session.requests ++ p.request ∷ []) i z → In z p.session.freeable → IsFreedBefore (after p) z i
+      freed i f x v z (inl h) put old_block =
+          let c = old.freed i f x v z h (put_back p i z (slice_get-length p.session.notes i (Page f x v) h) put) old_block in
+          (c.0, commit_before_old p c.0 i c.1, marks_old c.0 z (Submitted c.1.0 c.1.1) ∙ c.2)
+      freed i f x v z (inr h) put old_block =
+          let c = new.freed f x v z h.1 (new_put p z (subst (λ j. IsPutOf (p.session.requests ++ p.request ∷ []) j z) h.0 put)) old_block in
+          (c.0, commit_before_new c.0 i h.0 c.1, marks_old c.0 z (Submitted c.1.0 c.1.1) ∙ c.2)
+
 -- ---- pages
 
 module _ {A : Type 0} (program : Reads A) (h : History A) (p : Submitting) (order : CommitOrder p.session) (clause : CommitClause p.session p.request p.note) where
@@ -167,6 +176,23 @@ module _ {A : Type 0} (program : Reads A) (h : History A) (p : Submitting) (orde
         (λ s. old.files k f i x s m (sym (marks_old program p order clause k (place_at program h p.session k f i) s) ∙ ap (mark_in (transactions_from p.transactions 1 k)) (sym (place_old k f i s)) ∙ set))
         (λ n. (new.commit k n).files f i x m set)
         (submitted_cases program p order clause k sub);
+    opened = old.opened;
+    stays = λ f i k there sub calm.
+        ⊎_elim
+        (λ s. old.stays f i k there s calm ∙ sym (place_old k f i s))
+        (λ n. (new.commit k n).stays f i there calm)
+        (submitted_cases program p order clause k sub);
+    given_up = λ o f i g j w there t apart.
+        ⊎_elim
+        (λ t.
+        let x = old.given_up o f i g j w there t apart in
+        record { k = x.k; commit = x.commit; committed = note_old p x.commit (Commit x.k) x.committed; before = x.before; entry = x.entry; later = x.later; within = x.within; unmapped = x.unmapped })
+        (λ t.
+        let x = (new.page g j w (place_at program h p.session 0 f i) t.1 t.2).given_up f i there refl apart in
+        let at = t.0 in
+        let within = slice_get-length p.session.notes x.commit (Commit x.k) x.committed in
+        record { k = x.k; commit = x.commit; committed = note_old p x.commit (Commit x.k) x.committed; before = omega arith; entry = x.entry; later = x.later; within = x.within; unmapped = x.unmapped })
+        (page_cases o g j w (place_at program h p.session 0 f i) t);
   }
     where
       old_within : (o f i v z : ℕ) → IsPageTo p.session o f i v z → o < new_place p
@@ -222,11 +248,11 @@ module _ {A : Type 0} (program : Reads A) (h : History A) (p : Submitting) (orde
 
   pub data_before_commit_step : DataBeforeCommit program h p.session → PageClause program h p → DataBeforeCommit program h (after p)
   data_before_commit_step old new = record {
-    sent = λ k c f i g ch m.
+    sent = λ k c f i g ch m wrote.
         ⊎_elim
-        (λ o. let x = old.sent k c f i o ch m in (x.0, note_old p x.0 (Page f i (last_write h f i (h.cut k))) x.1, ordered_old p.session.requests p.request x.0 x.2, fenced_old p.session.requests p.request x.0 c x.3))
+        (λ o. let x = old.sent k c f i o ch m wrote in (x.0, note_old p x.0 (Page f i (last_write h f i (h.cut k))) x.1, ordered_old p.session.requests p.request x.0 x.2, fenced_old p.session.requests p.request x.0 c x.3))
         (λ n.
-        let x = (new.commit k n.1).sent f i ch m in
+        let x = (new.commit k n.1).sent f i ch m wrote in
         (x.0, note_old p x.0 (Page f i (last_write h f i (h.cut k))) x.1, ordered_old p.session.requests p.request x.0 x.2, subst (Fenced (p.session.requests ++ p.request ∷ []) x.0) (sym n.0) (closed_off p x.0 x.3)))
         (note_cases p c (Commit k) g);
   }

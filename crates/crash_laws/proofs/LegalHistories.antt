@@ -8,9 +8,9 @@ use Rattle.blk_base.specs.laws.Members.{slice_get-push_cases, slice_get-length}
 use Rattle.tree_model.specs.declared.call.Call.{Call}
 use Rattle.tree_model.specs.declared.call.Reply.TheVariants as replies
 use Rattle.tree_model.specs.declared.call.Room.{Room}
-use Rattle.tree_model.specs.Calls.{reply_of}
+use Rattle.tree_model.specs.Calls.{Tree, reply_of}
 use Rattle.tree_model.specs.Histories.{tree_after_entries}
-use Rattle.crash_laws.specs.LegalHistory.{Event, Begin, End, thread_of, has_begun, done_from, done_by, root_alone, tree_up_to, Follows, of_thread, IsReply, IsLegal, EventClause}
+use Rattle.crash_laws.specs.LegalHistory.{Event, Begin, End, thread_of, has_begun, done_from, done_by, tree_up_to, Follows, of_thread, IsReply, IsLegal, EventClause}
 use Rattle.crash_laws.proofs.LongerHistories.{done_from-append, length-done_from, same_tree}
 
 take_left : {X : Type 0} (xs ys : List X) (i : ℕ) → i ≤ length xs → take i (xs ++ ys) ≡ take i xs
@@ -26,8 +26,8 @@ filter_push : {X : Type 0} (p : X → Bool) (xs : List X) (y : X) → p y ≡ fa
 filter_push p [] y e = ap (λ b. if b then y ∷ [] else []) e
 filter_push p (x ∷ xs) y e = ap (λ zs. if p x then x ∷ zs else zs) (filter_push p xs y e)
 
-pub legal_at_start : (room : Room) (width : ℕ) (programs : ℕ → List Call) → IsLegal room width programs []
-legal_at_start room width programs = record {
+pub legal_at_start : (room : Room) (opened : Tree) (first : ℕ) (programs : ℕ → List Call) → IsLegal room opened first programs []
+legal_at_start room opened first programs = record {
   programs_followed = λ t. tt;
   at_once = λ i t c r e not_begun. absurd (none-some (End t c r) e);
   begins = λ i t c e. absurd (none-some (Begin t c) e);
@@ -36,15 +36,15 @@ legal_at_start room width programs = record {
   read_only = λ i j t u id c d r lt e f other. absurd (none-some (End u d r) f);
 }
 
-module _ (room : Room) (width : ℕ) (programs : ℕ → List Call) (events : List Event) (e : Event) where
+module _ (room : Room) (opened : Tree) (first : ℕ) (programs : ℕ → List Call) (events : List Event) (e : Event) where
   -- an old event and the new one see what stood before them
-  same_before : (i : ℕ) → i ≤ length events → tree_up_to room width (events ++ e ∷ []) i ≡ tree_up_to room width events i
+  same_before : (i : ℕ) → i ≤ length events → tree_up_to room opened first (events ++ e ∷ []) i ≡ tree_up_to room opened first events i
   same_before i le =
       let long = length-done_from [] events in
-      ap (λ es. tree_after_entries room (root_alone width) 0 es (i - 0)) (done_from-append [] events (e ∷ []))
-      ∙ same_tree room (root_alone width) (done_by events) (done_from events (e ∷ [])) (i - 0) (omega arith)
+      ap (λ es. tree_after_entries room opened first es i) (done_from-append [] events (e ∷ []))
+      ∙ same_tree room opened first (done_by events) (done_from events (e ∷ [])) i (omega arith)
 
-  module _ (old : IsLegal room width programs events) (new : EventClause room width programs events e) where
+  module _ (old : IsLegal room opened first programs events) (new : EventClause room opened first programs events e) where
     begun_old : (i t : ℕ) → i ≤ length events → has_begun t false (take i (events ++ e ∷ [])) ≡ has_begun t false (take i events)
     begun_old i t le = ap (has_begun t false) (take_left events (e ∷ []) i le)
 
@@ -61,18 +61,18 @@ module _ (room : Room) (width : ℕ) (programs : ℕ → List Call) (events : Li
           | inr other ↦ subst (λ es. Follows es (programs t)) (sym (filter_push (λ x. thread_of x == t) events e other)) (old.programs_followed t)
         ]
 
-    pub legal_grows : IsLegal room width programs (events ++ e ∷ [])
+    pub legal_grows : IsLegal room opened first programs (events ++ e ∷ [])
     legal_grows = record {
       programs_followed = followed;
       at_once = λ i t c r there not_begun.
           ⊎_elim
           (λ o.
           let lt = slice_get-length events i (End t c r) o in
-          subst (λ tree. IsReply room tree (i + 1) c r) (sym (same_before i (omega arith)))
+          subst (λ tree. IsReply room tree (first + (i + 1)) c r) (sym (same_before i (omega arith)))
           (old.at_once i t c r o (λ b. not_begun (begun_old i t (omega arith) ∙ b))))
           (λ n.
-          subst (λ j. IsReply room (tree_up_to room width (events ++ e ∷ []) j) (j + 1) c r) (sym n.0)
-          (subst (λ tree. IsReply room tree (length events + 1) c r) (sym (same_before (length events) (omega arith)))
+          subst (λ j. IsReply room (tree_up_to room opened first (events ++ e ∷ []) j) (first + (j + 1)) c r) (sym n.0)
+          (subst (λ tree. IsReply room tree (first + (length events + 1)) c r) (sym (same_before (length events) (omega arith)))
           (new.at_once t c r n.1 (λ b. not_begun (begun_new i t n.0 ∙ b)))))
           (slice_get-push_cases events e i (End t c r) there);
       begins = λ i t c there.
@@ -80,12 +80,12 @@ module _ (room : Room) (width : ℕ) (programs : ℕ → List Call) (events : Li
           (λ o.
           let lt = slice_get-length events i (Begin t c) o in
           let x = old.begins i t c o in
-          (x.0, subst (λ tree. reply_of room tree (i + 1) c ≡ replies.Ok) (sym (same_before i (omega arith))) x.1))
+          (x.0, subst (λ tree. reply_of room tree (first + (i + 1)) c ≡ replies.Ok) (sym (same_before i (omega arith))) x.1))
           (λ n.
           let x = new.begins t c n.1 in (
             x.0,
-            subst (λ j. reply_of room (tree_up_to room width (events ++ e ∷ []) j) (j + 1) c ≡ replies.Ok) (sym n.0)
-                (subst (λ tree. reply_of room tree (length events + 1) c ≡ replies.Ok) (sym (same_before (length events) (omega arith))) x.1),
+            subst (λ j. reply_of room (tree_up_to room opened first (events ++ e ∷ []) j) (first + (j + 1)) c ≡ replies.Ok) (sym n.0)
+                (subst (λ tree. reply_of room tree (first + (length events + 1)) c ≡ replies.Ok) (sym (same_before (length events) (omega arith))) x.1),
           ))
           (slice_get-push_cases events e i (Begin t c) there);
       ends = λ i t c r there begun.

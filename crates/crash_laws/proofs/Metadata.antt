@@ -1,6 +1,6 @@
 -- The recovered metadata is that of the image of the last transaction found.
-use Rattle.std.specs.Prelude.{◌≡◌, ℕ, zero, suc, ◌+◌, ◌-◌, ◌<◌, ◌≤◌, List, refl}
-use Rattle.std.proofs.Common.{sym, ap, subst, ◌∙◌, ⊎_elim, arith}
+use Rattle.std.specs.Prelude.{◌≡◌, ℕ, zero, suc, ◌+◌, ◌-◌, ◌<◌, ◌≤◌, ◌⊎◌, List, refl}
+use Rattle.std.proofs.Common.{sym, ap, subst, ◌∙◌, inl, inr, ⊎_elim, arith}
 use Rattle.std.proofs.lemmas.Bool.{cases_lt}
 use Rattle.blk_base.specs.Members.{In}
 use Rattle.order_model.specs.declared.note.Note.TheVariants.{Page, Home}
@@ -8,7 +8,7 @@ use Rattle.order_model.specs.OrderClosed.{IsPutOf, IsKept, IsOrderClosed}
 use Rattle.volume_ops.specs.Volume.{disk_of}
 use Rattle.volume_ops.specs.Reads.{Reads, blocks_read}
 use Rattle.log_model.specs.Marks.{Mark, Keep, Clear, Set, followed, mark_in, body_after, transactions_from, replayed}
-use Rattle.log_model.proofs.Marks.{same_Set, keep≢set, clear≢set, mark-split, mark-keep_before, mark-clear}
+use Rattle.log_model.proofs.Marks.{same_Set, keep≢set, keep≢clear, clear≢set, mark-split, mark-keep_before, mark-clear}
 use Rattle.crash_laws.specs.Found.{IsFound}
 use Rattle.crash_laws.specs.Ordering.{IsOrderedPut}
 use Rattle.crash_laws.specs.Recovery.{IsTailOf, IsLogFrom}
@@ -37,12 +37,12 @@ module _ {A : Type 0} {program : Reads A} {s : Session} {m : Medium} {F : ℕ} (
       let k = mark-clear s.transactions 1 F b clear in
       let hi = k.2 in
       let c = is_found.there k.0 k.1 (omega arith) in
-      rules.images.revokes k.0 c.0 b c.1 k.3 old)
+      ⊎_elim (rules.images.revokes k.0 c.0 b c.1 k.3) (λ keep. keep≢clear (sym keep.1 ∙ clear)) old)
       (λ set. clear≢set set.0 (sym clear ∙ set.1))
       (rules.images.logged F b found_submitted read)
 
   -- A block of which no transaction up to F says anything, and that is the base image's metadata, is as there.
-  base_stays : (b : ℕ) → In b s.reserved → mark_in (transactions_from s.transactions 1 F) b ≡ Keep → disk_of m.image b ≡ disk_of s.base b
+  base_stays : (b : ℕ) → In b s.reserved ⊎ In b s.freeable → mark_in (transactions_from s.transactions 1 F) b ≡ Keep → disk_of m.image b ≡ disk_of s.base b
   base_stays b old keep =
       ⊎_elim
       (λ written.
@@ -52,14 +52,21 @@ module _ {A : Type 0} {program : Reads A} {s : Session} {m : Medium} {F : ℕ} (
       ⊎_elim
       (λ page.
       let p = rules.fits.page o page.0 page.1 page.2 page.3 in
-      absurd (p.3 (subst (λ c. In c s.reserved) (same_block s.requests o b p.0 put p.1) old)))
+      ⊎_elim
+      (λ reserved. absurd (p.3 (subst (λ c. In c s.reserved) (same_block s.requests o b p.0 put p.1) reserved)))
+      (λ freeable.
+      let freed = rules.images.freed o page.0 page.1 page.2 b page.3 put freeable in
+      let within = reached freed.0 o freed.1 kept in
+      let e : F ≡ freed.0 + (F - freed.0) = omega arith in
+      absurd (keep≢clear (sym (mark-keep_before s.transactions 1 freed.0 (F - freed.0) b (ap (λ n. mark_in (transactions_from s.transactions 1 n) b) (sym e) ∙ keep)) ∙ freed.2)))
+      old)
       (λ home.
       let of = rules.images.home o b home in
       let within = reached of.k o of.committed kept in
       let e : F ≡ of.k + (F - of.k) = omega arith in
       let none = mark-keep_before s.transactions 1 of.k (F - of.k) b (ap (λ n. mark_in (transactions_from s.transactions 1 n) b) (sym e) ∙ keep) in
       absurd (keep≢set of.body (sym none ∙ of.mark)))
-      (put_of_volume rules.fits rules.images o b (rules.base.reserved b old) put))
+      (put_of_volume rules.fits rules.images o b (⊎_elim (rules.base.reserved b) (rules.base.freeable b) old) put))
       (λ same. same)
       (origin_or_base closed b)
 
@@ -160,6 +167,6 @@ module _ {A : Type 0} {program : Reads A} {s : Session} {m : Medium} {F : ℕ} (
       by Keep eh Keep et =
           let w = whole Keep Keep eh et in
           ⊎_elim
-          (λ old. both Keep Keep et w (base_stays b old w))
+          (λ old. both Keep Keep et w (base_stays b (⊎_elim inl (λ keep. inr keep.0) old) w))
           (λ set. absurd (keep≢set set.0 (sym w ∙ set.1)))
           (rules.images.logged F b found_submitted read)

@@ -8,7 +8,7 @@ use Rattle.crash_laws.proofs.ImageSteps.{fits_notes_step, images_step}
 use Rattle.crash_laws.proofs.LogSteps.{log_layout_step, checkpoint_order_step}
 
 base_stays : (p : Submitting) → BaseImage p.session → BaseImage (after p)
-base_stays p old = record { start = old.start; reserved = old.reserved; plain = old.plain }
+base_stays p old = record { start = old.start; reserved = old.reserved; freeable = old.freeable; plain = old.plain }
 
 pub order_rules_step : {A : Type 0} (program : Reads A) (p : Submitting) → OrderRules program p.session → OrderClause program p → OrderRules program (after p)
 order_rules_step program p old new = record {

@@ -60,6 +60,18 @@ module _ {base : List (List ℕ)} {requests : List Request} {image : List (List 
       (closed.body_of b o x.0 h x.1)
 
   -- each block has an origin, or the base's body
+  pub origin_or_none : (b : ℕ) → ((o : ℕ) × HasOrigin origins b o) ⊎ (((o : ℕ) → HasOrigin origins b o → ⊥) × (disk_of image b ≡ disk_of base b))
+  origin_or_none b = cases (slice_get origins b) refl
+    where
+      cases : (o : Option (Option ℕ)) → slice_get origins b ≡ o → ((p : ℕ) × HasOrigin origins b p) ⊎ (((p : ℕ) → HasOrigin origins b p → ⊥) × (disk_of image b ≡ disk_of base b))
+      cases (Some (Some p)) e = inl (p, e)
+      cases (Some None) e = inr (λ p held. let q : Some None ≡ Some (Some p) = sym e ∙ held in none-some p (same_Some None (Some p) q), same_on_disk image base b (closed.base_of b e))
+      cases None e =
+          let past = slice_get-none origins b e in
+          let blocks = closed.blocks in
+          let places = closed.places in
+          inr (λ p held. none-some (Some p) (sym e ∙ held), same_on_disk image base b (slice_get-out image b (omega arith) ∙ sym (slice_get-out base b (omega arith))))
+
   pub origin_or_base : (b : ℕ) → ((o : ℕ) × HasOrigin origins b o) ⊎ (disk_of image b ≡ disk_of base b)
   origin_or_base b = cases (slice_get origins b) refl
     where

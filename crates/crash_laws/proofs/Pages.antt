@@ -1,5 +1,5 @@
 -- A kept page is there, or a later version of it.
-use Rattle.std.specs.Prelude.{◌≡◌, ◌≢◌, ℕ, ◌+◌, ◌-◌, ◌<◌, ◌≤◌, ◌==◌, ◌⊎◌, true}
+use Rattle.std.specs.Prelude.{◌≡◌, ◌≢◌, ℕ, ◌+◌, ◌-◌, ◌<◌, ◌≤◌, ◌==◌, ◌⊎◌, true, refl}
 use Rattle.std.proofs.Common.{sym, ap, subst, ◌∙◌, inl, inr, ⊎_elim, arith, eqb-true, false-eqb}
 use Rattle.std.proofs.lemmas.Bool.{cases_Bool, cases_lt}
 use Rattle.order_model.specs.declared.note.Note.TheVariants.{Page, Home}
@@ -10,14 +10,15 @@ use Rattle.log_model.specs.Marks.{mark_in, transactions_from}
 use Rattle.crash_laws.specs.Found.{IsFound}
 use Rattle.crash_laws.specs.History.{History, Calm, HasTrees}
 use Rattle.crash_laws.specs.PageRules.{IsPageTo, PageOrder}
-use Rattle.crash_laws.specs.Recovery.{HasVersion}
+use Rattle.crash_laws.specs.PageRules.{place_at}
+use Rattle.crash_laws.specs.Recovery.{IsOf, Sent, Opened, HasVersion}
 use Rattle.crash_laws.specs.Rules.{OrderRules}
 use Rattle.crash_laws.specs.Session.{Session, Medium, HasNote, IsCommit, CommitBefore, IsSubmitted, Submitted}
 use Rattle.crash_laws.specs.laws.Submitting.{after}
 use Rattle.crash_laws.proofs.Commits.{commit_positive, reached_by_kept}
 use Rattle.crash_laws.proofs.Histories.{calm_within, calm_nothing, stays_mapped, cuts_rise}
 use Rattle.crash_laws.proofs.Metadata.{found_submitted}
-use Rattle.crash_laws.proofs.Ordering.{same_body, origin_is_kept, origin_of_kept, body_of_origin}
+use Rattle.crash_laws.proofs.Ordering.{same_body, origin_is_kept, origin_of_kept, origin_or_none, body_of_origin}
 use Rattle.crash_laws.proofs.Origins.{put_of_volume}
 
 -- a number is another or not
@@ -100,11 +101,66 @@ module _ {A : Type 0} {program : Reads A} {h : History A} {s : Session} {m : Med
       let w = origin_is_page p f i v o.0 to.0 page to.2 o.2 o.1 calm in
       let body = same_body s.requests o.0 (disk_of m.image to.0) (h.content f i w.0) (body_of_origin closed to.0 o.0 o.1) (pages.content o.0 f i w.0 to.0 w.1) in
       record {
-        origin = o.0;
         version = w.0;
-        note = w.1.note;
-        held = subst (λ z. HasOrigin m.origins z o.0) at o.1;
+        source = Sent o.0 w.1.note (subst (λ z. HasOrigin m.origins z o.0) at o.1);
         body = subst (λ z. disk_of m.image z ≡ h.content f i w.0) at body;
         later = w.2;
         low = subst (λ z. z < s.journal) at to.2;
       }
+
+  -- ---- blocks of the tree that was opened
+
+  module _ (f i : ℕ) (there : h.maps 0 f i ≡ true) (calm : Calm h f i 0 (h.cut F)) where
+    home_of_opened : (o : ℕ) → HasNote s o (Home (place_at program h s 0 f i)) → IsKept s.requests m.origins o → ⊥
+    home_of_opened o home kept =
+        let of = rules.images.home o (place_at program h s 0 f i) home in
+        let hi = reached of.k o of.committed kept in
+        let sub : IsSubmitted s of.k = Submitted of.committed.0 of.committed.1 in
+        let calm_k = calm_within f i 0 0 (h.cut of.k) (h.cut F) calm (omega arith) (cuts_rise trees of.k F hi) in
+        let there_k = stays_mapped f i 0 (h.cut of.k) (omega arith) calm_k there in
+        pages.files of.k f i of.body sub there_k (ap (λ y. mark_in (transactions_from s.transactions 1 of.k) y) (sym (pages.stays f i of.k there sub calm_k)) ∙ of.mark)
+
+    other_page_of_opened : (o g j w : ℕ) → IsPageTo s o g j w (place_at program h s 0 f i) → IsKept s.requests m.origins o → ((f ≡ g) × (i ≡ j) → ⊥) → ⊥
+    other_page_of_opened o g j w other kept apart =
+        let up = pages.given_up o f i g j w there other apart in
+        let rise = cuts_rise trees up.k F (reached up.k o (up.commit, up.committed, up.before) kept) in
+        let within = up.within in
+        calm up.entry up.later (omega arith) up.unmapped
+
+    -- One that is not unmapped up to F is on the medium as it was, or in a later version.
+    pub opened_stays : HasVersion program h s m F f i 0
+    opened_stays =
+        ⊎_elim
+        (λ o.
+        let put = closed.block_of (place_at program h s 0 f i) o.0 o.1 in
+        let kept = origin_is_kept closed (place_at program h s 0 f i) o.0 o.1 in
+        ⊎_elim
+        (λ page. by_page o.0 o.1 put kept page.0 page.1 page.2 page.3 (same_page f i page.0 page.1))
+        (λ home. absurd (home_of_opened o.0 home kept))
+        (put_of_volume rules.fits rules.images o.0 (place_at program h s 0 f i) (pages.opened f i there).0 put))
+        (λ none. record {
+          version = 0;
+          source = Opened refl (subst (λ z. (o : ℕ) → HasOrigin m.origins z o → ⊥) at none.0);
+          body = subst (λ z. disk_of m.image z ≡ h.content f i 0) at (none.1 ∙ (pages.opened f i there).1);
+          later = omega arith;
+          low = subst (λ z. z < s.journal) at (pages.opened f i there).0;
+        })
+        (origin_or_none closed (place_at program h s 0 f i))
+      where
+        at : place_at program h s 0 f i ≡ place_at program h s F f i
+        at = pages.stays f i F there (found_submitted rules closed is_found) calm
+
+        by_page : (o : ℕ) → HasOrigin m.origins (place_at program h s 0 f i) o → IsPutOf s.requests o (place_at program h s 0 f i) → IsKept s.requests m.origins o
+            → (g j w : ℕ) → HasNote s o (Page g j w) → ((f ≡ g) × (i ≡ j)) ⊎ ((f ≡ g) × (i ≡ j) → ⊥) → HasVersion program h s m F f i 0
+        by_page o held put kept g j w note (inr apart) = absurd (other_page_of_opened o g j w (record { note = note; put = put }) kept apart)
+        by_page o held put kept g j w note (inl same) =
+            let n : HasNote s o (Page f i w) = subst (λ a. HasNote s o (Page a i w)) (sym same.0) (subst (λ a. HasNote s o (Page g a w)) (sym same.1) note) in
+            let t : IsPageTo s o f i w (place_at program h s 0 f i) = record { note = n; put = put } in
+            let body = same_body s.requests o (disk_of m.image (place_at program h s 0 f i)) (h.content f i w) (body_of_origin closed (place_at program h s 0 f i) o held) (pages.content o f i w (place_at program h s 0 f i) t) in
+            record {
+              version = w;
+              source = Sent o n (subst (λ z. HasOrigin m.origins z o) at held);
+              body = subst (λ z. disk_of m.image z ≡ h.content f i w) at body;
+              later = omega arith;
+              low = subst (λ z. z < s.journal) at (pages.opened f i there).0;
+            }

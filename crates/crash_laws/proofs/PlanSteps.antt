@@ -15,7 +15,7 @@ use Rattle.crash_laws.specs.History.{History, Calm, HasTrees}
 use Rattle.crash_laws.specs.laws.HostFacts.{Host, HostFacts}
 use Rattle.crash_laws.specs.PageRules.{IsPageTo, place_at}
 use Rattle.crash_laws.specs.laws.Plans.{PlanFacts}
-use Rattle.crash_laws.specs.Rules.{CommitOrder}
+use Rattle.crash_laws.specs.Rules.{CommitOrder, IsOlder}
 use Rattle.crash_laws.specs.Session.{Session, IsCommit, image_of}
 use Rattle.crash_laws.proofs.Commits.{commit_positive, commits_rise}
 use Rattle.crash_laws.proofs.Histories.{cuts_rise}
@@ -73,13 +73,13 @@ module _ {A : Type 0} {program : Reads A} {h : History A} {s : Session} {host : 
   walk_of_image = answer-agrees host.volume (image_of s host.running) program agrees
 
   -- and what is to be said of its blocks
-  pub logged_after : (b : ℕ) → In b (blocks_read (image_of s host.running) program) → In b s.reserved ⊎ ((x : List ℕ) × (mark_in (transactions_from s.transactions 1 host.running) b ≡ Set x))
+  pub logged_after : (b : ℕ) → In b (blocks_read (image_of s host.running) program) → IsOlder s host.running b ⊎ ((x : List ℕ) × (mark_in (transactions_from s.transactions 1 host.running) b ≡ Set x))
   logged_after b read =
       let meta = plan.walk b (subst (In b) (blocks_read-agree host.volume (image_of s host.running) program agrees) read) in
       let here = mark_on_metadata b meta in
       ⊎_elim
       (λ body. inr (host.volume b, here ∙ ap (followed (mark_in (transactions_from s.transactions 1 (host.running - 1)) b)) body))
-      (λ old. ⊎_elim inl (λ set. inr (set.0, here ∙ ap (followed (mark_in (transactions_from s.transactions 1 (host.running - 1)) b)) old.0 ∙ set.1)) old.2)
+      (λ old. ⊎_elim (λ older. inl (⊎_elim inl (λ keep. inr (keep.0, here ∙ ap (followed (mark_in (transactions_from s.transactions 1 (host.running - 1)) b)) old.0 ∙ keep.1)) older)) (λ set. inr (set.0, here ∙ ap (followed (mark_in (transactions_from s.transactions 1 (host.running - 1)) b)) old.0 ∙ set.1)) old.2)
       (plan.present b meta)
 
   pub bodies_after : (b : ℕ) (x : List ℕ) → mark_in (transactions_from s.transactions 1 host.running) b ≡ Set x → host.metadata b ≡ true
@@ -130,6 +130,17 @@ module _ {A : Type 0} {program : Reads A} {h : History A} {s : Session} {host : 
       let at = plan.cut in
       absurd (calm dead.entry dead.later (omega arith) dead.unmapped))
       (facts.live_or_dead o f i v z page)
+
+  -- Nor does a block leave its place that the tree which was opened has.
+  pub opened_in_place : (f i : ℕ) → h.maps 0 f i ≡ true → Calm h f i 0 (h.cut host.running) → place_at program h s 0 f i ≡ place_at program h s host.running f i
+  opened_in_place f i maps calm =
+      ⊎_elim
+      (λ live. sym (place_of_page f i (place_at program h s 0 f i) live.there))
+      (λ dead.
+      let in_time = dead.in_time in
+      let at = plan.cut in
+      absurd (calm dead.entry dead.later (omega arith) dead.unmapped))
+      (facts.opened_live_or_dead f i maps)
 
   -- And no block of a file has a body.
   pub files_after : (f i : ℕ) (x : List ℕ) → h.maps (h.cut host.running) f i ≡ true → mark_in (transactions_from s.transactions 1 host.running) (place_at program h s host.running f i) ≡ Set x → ⊥

@@ -13,11 +13,11 @@ use Rattle.log_model.specs.Marks.{Set, mark_in, transactions_from}
 use Rattle.log_model.specs.Ring.{places_on}
 use Rattle.log_model.specs.Log.{Spells}
 use Rattle.log_model.proofs.Ring.{places_on-place}
-use Rattle.crash_laws.specs.laws.Clauses.{FitsClause, CommitClause, LogClause, CheckpointClause, ImageClause, OrderClause}
+use Rattle.crash_laws.specs.laws.Clauses.{FitsClause, CommitClause, LogClause, CheckpointClause, ImageClause, OrderClause, IsFreedNow}
 use Rattle.crash_laws.specs.History.{History}
 use Rattle.crash_laws.specs.laws.PageClauses.{NewPageClause, CommitPagesClause, PageClause}
 use Rattle.crash_laws.specs.laws.Requests.{IsPageRequest, IsFlushRequest, IsHomeRequest, IsSuperRequest, IsLogRequest, IsCommitRequest, IsPartRequest}
-use Rattle.crash_laws.specs.Rules.{HasHeader, is_page_or_flush}
+use Rattle.crash_laws.specs.Rules.{HasHeader, is_page_or_flush, IsOlder}
 use Rattle.crash_laws.specs.Session.{log_transaction, IsLog, log_blocks, log_blocks_of, bodies_of, sequence_of, image_of}
 use Rattle.crash_laws.specs.laws.Submitting.{Submitting, after, IsCommitted}
 
@@ -66,6 +66,7 @@ module _ {A : Type 0} (program : Reads A) (p : Submitting) (none : log_transacti
     logged = λ k b e h. absurd (no_commit p none k e);
     home = λ b e. absurd (no_home b e);
     page = λ f i v z k x e block set c. absurd (no_page f i v e);
+    freed = λ f i v z e block old. absurd (no_page f i v e);
   }
 
 -- ---- notes are apart
@@ -109,6 +110,8 @@ module _ {A : Type 0} (program : Reads A) (p : Submitting) where
           home = λ b e. absurd (let x = sym note ∙ e in let y : ⊥ = cc in y);
           page = λ g j w z k x e block set c.
               r.unlogged k x (subst (λ y. mark_in (transactions_from p.session.transactions 1 k) y ≡ Set x) (same_Some z r.zone (sym block ∙ r.block)) set) c;
+          freed = λ g j w z e block old.
+              subst (IsFreedNow p.session) (same_Some r.zone z (sym r.block ∙ block)) (r.freed (subst (λ y. In y p.session.freeable) (sym (same_Some r.zone z (sym r.block ∙ block))) old));
         };
       }
 
@@ -166,6 +169,7 @@ module _ {A : Type 0} (program : Reads A) (p : Submitting) where
             subst (λ d. mark_in (transactions_from p.session.transactions 1 r.newest) d ≡ Set r.body) (same_home b c (sym note ∙ e)) r.mark,
           );
           page = λ g j w z k x e block set c. absurd (let x = sym note ∙ e in let y : ⊥ = cc in y);
+          freed = λ g j w z e block old. absurd (let x = sym note ∙ e in let y : ⊥ = cc in y);
         };
       }
 
@@ -254,6 +258,7 @@ module _ {A : Type 0} (program : Reads A) (p : Submitting) where
           logged = λ l b e h. absurd (other l e);
           home = λ b e. absurd (none-some k (sym (ap log_transaction e) ∙ r.note));
           page = λ g j w z l x e block set c. absurd (none-some k (sym (ap log_transaction e) ∙ r.note));
+          freed = λ g j w z e block old. absurd (none-some k (sym (ap log_transaction e) ∙ r.note));
         };
       }
 
@@ -286,10 +291,11 @@ module _ {A : Type 0} (program : Reads A) (p : Submitting) where
           bodies = λ l b x e set. c.bodies b x (subst (λ n. mark_in (transactions_from p.transactions 1 n) b ≡ Set x) (sym (number l e)) set);
           revokes = λ l b e h g. c.revokes b (subst (λ n. In b (p.transactions n).revokes) (sym (number l e)) h) g;
           logged = λ l b e h.
-              subst (λ n. In b p.session.reserved ⊎ ((x : List ℕ) × (mark_in (transactions_from p.transactions 1 n) b ≡ Set x))) (number l e)
+              subst (λ n. IsOlder (after p) n b ⊎ ((x : List ℕ) × (mark_in (transactions_from p.transactions 1 n) b ≡ Set x))) (number l e)
               (c.logged b (subst (λ n. In b (blocks_read (image_of (after p) n) program)) (sym (number l e)) h));
           home = λ b e. absurd (none-some k (sym (ap log_transaction e) ∙ r.note));
           page = λ g j w z l x e block set d. absurd (none-some k (sym (ap log_transaction e) ∙ r.note));
+          freed = λ g j w z e block old. absurd (none-some k (sym (ap log_transaction e) ∙ r.note));
         };
       }
     where

@@ -10,9 +10,9 @@ use Rattle.volume_ops.specs.Reads.{Reads}
 use Rattle.log_model.specs.Marks.{Mark, Keep, Clear, Set, followed, mark_in, transaction_mark, transactions_from}
 use Rattle.log_model.proofs.Marks.{mark-split, transaction_mark-clear}
 use Rattle.crash_laws.specs.History.{History, last_write, HasTrees}
-use Rattle.crash_laws.specs.laws.HostFacts.{Host, IsLive, IsDead, HostFacts}
-use Rattle.crash_laws.specs.laws.PageClauses.{NewPageClause, IsGivenUpNow}
-use Rattle.crash_laws.specs.PageRules.{IsPageTo}
+use Rattle.crash_laws.specs.laws.HostFacts.{Host, IsLive, IsDead, IsOpenedDead, HostFacts}
+use Rattle.crash_laws.specs.laws.PageClauses.{NewPageClause, IsGivenUpNow, IsOpenedGivenUp}
+use Rattle.crash_laws.specs.PageRules.{IsPageTo, place_at}
 use Rattle.crash_laws.specs.Session.{Session, IsSubmitted, Before, Submitted}
 use Rattle.crash_laws.specs.laws.Submitting.{IsCommitted}
 use Rattle.crash_laws.proofs.Histories.{mapped_was_written}
@@ -61,7 +61,7 @@ module _ {A : Type 0} {program : Reads A} {h : History A} {s : Session} {host : 
       let written = mapped_was_written trees f i host.now (facts.zone_mapped f i z there) in
       record {
         content = body;
-        there = trees.written f i (last_write h f i host.now) written.wrote;
+        there = written.there;
         place = λ k sub maps before behind.
             let le = submitted_closed k sub in
             let closed = running_above in
@@ -71,6 +71,7 @@ module _ {A : Type 0} {program : Reads A} {h : History A} {s : Session} {host : 
         versions = λ o w y page. facts.sent_version o f i w z y page there;
         another = λ o g j w page apart. given_up o g j w page apart (facts.live_or_dead o g j w z page);
         logged = λ k x c set. next k x c set;
+        given_up = λ g j maps at apart. opened_given_up g j at apart (facts.opened_live_or_dead g j maps);
       }
     where
       running_above : N < host.running
@@ -82,6 +83,14 @@ module _ {A : Type 0} {program : Reads A} {h : History A} {s : Session} {host : 
           ⊎_elim
           (λ c. record { k = dead.k; commit = c.0; committed = c.1; behind = c.2; entry = dead.entry; later = dead.later; within = c.3; unmapped = dead.unmapped })
           (λ waits. absurd (no_quarantine f i z dead.k there waits.1))
+          dead.given_up
+
+      opened_given_up : (g j : ℕ) → z ≡ place_at program h s 0 g j → ((g ≡ f) × (j ≡ i) → ⊥) → IsLive h host g j 0 (place_at program h s 0 g j) ⊎ IsOpenedDead h s host N g j (place_at program h s 0 g j) → IsOpenedGivenUp h s g j
+      opened_given_up g j at apart (inl live) = absurd (apart (facts.one_page g j f i z (live.there ∙ ap Some (sym at)) there))
+      opened_given_up g j at apart (inr dead) =
+          ⊎_elim
+          (λ c. record { k = dead.k; commit = c.0; committed = c.1; entry = dead.entry; later = dead.later; within = c.2; unmapped = dead.unmapped })
+          (λ waits. absurd (no_quarantine f i z dead.k there (ap host.quarantine at ∙ waits.1)))
           dead.given_up
 
       next : (k : ℕ) (x : List ℕ) → IsCommitted s k → mark_in (transactions_from s.transactions 1 k) z ≡ Set x → IsCommitted s (k + 1)

@@ -3,7 +3,7 @@ use Rattle.std.specs.Prelude.{◌≡◌, ℕ, ◌≤◌, true, List, Ok}
 use Rattle.std.proofs.Common.{sym, ap, subst, ◌∙◌, inl, inr, ⊎_elim}
 use Rattle.blk_base.specs.Members.{In}
 use Rattle.order_model.specs.declared.completion.Completion.{Completion}
-use Rattle.order_model.specs.OrderClosed.{HasOrigin, IsOrderClosed, KeepsFlushed}
+use Rattle.order_model.specs.OrderClosed.{IsOrderClosed, KeepsFlushed}
 use Rattle.tree_model.specs.declared.node.Node.{Node}
 use Rattle.tree_model.specs.Trees.{node_of_path, AreAlike}
 use Rattle.volume_ops.specs.Volume.{disk_of, tree_of, walked}
@@ -13,7 +13,7 @@ use Rattle.crash_laws.specs.Headline.{HoldsPrefix}
 use Rattle.crash_laws.specs.History.{HasTrees}
 use Rattle.crash_laws.specs.PageRules.{place_at}
 use Rattle.crash_laws.specs.PromiseRules.{BegunCall, Covers, CoversEntry, IsSettled}
-use Rattle.crash_laws.specs.Recovery.{HasVersion, IsRecovered}
+use Rattle.crash_laws.specs.Recovery.{IsOf, HasVersion, IsRecovered}
 use Rattle.crash_laws.specs.Session.{Medium}
 use Rattle.crash_laws.specs.SessionRules.{Run, history, tree_at, KeepsRules, HasVersionOnPath, IsSafe, Sentences}
 use Rattle.crash_laws.specs.TreeHistory.{zone_on_path}
@@ -27,7 +27,7 @@ module _ (run : Run) (rules : KeepsRules run)
     (m : Medium) (closed : IsOrderClosed run.session.base run.session.requests m.image m.origins)
     (recovered : List (List ℕ)) (recovers : IsRecovered run.session m (disk_of recovered)) where
   trees : HasTrees (history run)
-  trees = real_trees run.room run.geometry.width run.events run.cut run.place rules.cuts
+  trees = real_trees run.room run.opened run.first rules.plain rules.born run.events run.cut run.place rules.cuts
 
   held : HoldsPrefix (walk_volume run.geometry) (history run) run.session m (disk_of recovered) (found run.session m)
   held = prefix_and_versions (walk_volume run.geometry) (history run) run.session m (disk_of recovered) rules.order closed trees rules.pages rules.versions recovers
@@ -50,10 +50,8 @@ module _ (run : Run) (rules : KeepsRules run)
   on_path names birth index v mapped t path =
       let zone = zone_is names birth index path in
       record {
-        origin = t.origin;
         version = t.version;
-        note = t.note;
-        held = subst (λ z. HasOrigin m.origins z t.origin) (sym zone) t.held;
+        source = subst (IsOf run.session m birth index t.version) (sym zone) t.source;
         body =
             ap (disk_of recovered) zone
             ∙ page_block_untouched rules.order closed (kept_commits_are_prefix closed rules.order.fits rules.order.commits) recovers trees rules.pages birth index mapped t.low

@@ -1,9 +1,8 @@
 -- The empty list keeps all rules.
-use Rattle.std.specs.Prelude.{◌≡◌, ℕ, ◌+◌, ◌≤◌, [], length, Some, slice_get}
+use Rattle.std.specs.Prelude.{◌≡◌, ℕ, ◌+◌, ◌≤◌, ◌⊎◌, [], length, Some, slice_get}
 use Rattle.std.specs.Option.{option_and_then}
-use Rattle.std.proofs.Common.{sym, ap, subst, ◌∙◌, inl}
+use Rattle.std.proofs.Common.{sym, ap, subst, ◌∙◌, inl, inr, ⊎_elim}
 use Rattle.std.proofs.lemmas.Option.{none-some}
-use Rattle.std.proofs.lemmas.Bool.{false≢true}
 use Rattle.blk_base.specs.Members.{In}
 use Rattle.order_model.specs.declared.note.Note.{Note}
 use Rattle.order_model.specs.declared.note.Note.TheVariants.{Page, Super, Commit, Home, Flush, Raw}
@@ -12,8 +11,8 @@ use Rattle.volume_ops.specs.Reads.{Reads, blocks_read}
 use Rattle.log_model.specs.Marks.{mark_in, transactions_from}
 use Rattle.log_model.specs.Ring.{IsPlace}
 use Rattle.log_model.proofs.Marks.{keep≢set}
-use Rattle.crash_laws.specs.History.{History, HasTrees}
-use Rattle.crash_laws.specs.PageRules.{PageOrder}
+use Rattle.crash_laws.specs.History.{History}
+use Rattle.crash_laws.specs.PageRules.{place_at, HasOpened, PageOrder}
 use Rattle.crash_laws.specs.Rules.{BaseImage, OrderRules}
 use Rattle.crash_laws.specs.Session.{Session, HasNote, log_transaction, IsLog, IsSubmitted, Before, Submitted, LogBlock, log_blocks_from, image_of}
 
@@ -31,7 +30,7 @@ module _ {A : Type 0} (program : Reads A) (s : Session) (notes : s.notes ≡ [])
   none_there : (n : ℕ) (e : LogBlock) → slice_get (log_blocks_from 0 []) n ≡ Some e → ⊥
   none_there n e h = none-some e h
 
-  pub rules_at_start : s.requests ≡ [] → 1 ≤ s.ring.first → IsPlace s.ring s.head → BaseImage s → ((b : ℕ) → In b (blocks_read (disk_of s.base) program) → In b s.reserved) → OrderRules program s
+  pub rules_at_start : s.requests ≡ [] → 1 ≤ s.ring.first → IsPlace s.ring s.head → BaseImage s → ((b : ℕ) → In b (blocks_read (disk_of s.base) program) → In b s.reserved ⊎ In b s.freeable) → OrderRules program s
   rules_at_start requests first head base metadata = record {
     fits = record {
       counted = ap length notes ∙ sym (ap length requests);
@@ -69,22 +68,26 @@ module _ {A : Type 0} (program : Reads A) (s : Session) (notes : s.notes ≡ [])
     images = record {
       bodies = λ k b x sub set. absurd (keep≢set x (sym (ap (λ n. mark_in (transactions_from s.transactions 1 n) b) (only_before k sub)) ∙ set));
       revokes = λ k i b h r e. no_note i (Commit k) h;
-      logged = λ k b sub read. inl (metadata b (subst (λ n. In b (blocks_read (image_of s n) program)) (only_before k sub) read));
+      logged = λ k b sub read.
+          inl (⊎_elim inl (λ old. inr (old, ap (λ n. mark_in (transactions_from s.transactions 1 n) b) (only_before k sub)))
+          (metadata b (subst (λ n. In b (blocks_read (image_of s n) program)) (only_before k sub) read)));
       home = λ i b h. absurd (no_note i (Home b) h);
       pages = λ i f x v z k y h put set c. absurd (no_note i (Page f x v) h);
+      freed = λ i f x v z h put old. absurd (no_note i (Page f x v) h);
     };
     base = base;
   }
 
-  pub pages_at_start : (h : History A) → HasTrees h → PageOrder program h s
-  pages_at_start h trees = record {
+  pub pages_at_start : (h : History A) → HasOpened program h s → PageOrder program h s
+  pages_at_start h opened = record {
     content = λ o f i v z t. absurd (no_note o (Page f i v) t.note);
     there = λ o f i v z t. absurd (no_note o (Page f i v) t.note);
     place = λ o f i v z k t sub m c d. absurd (no_note o (Page f i v) t.note);
     versions = λ a o f i v w y z lt t u. absurd (no_note o (Page f i w) u.note);
     another = λ a o f i v g j w z lt t u n. absurd (no_note a (Page f i v) t.note);
     logged = λ o f i v z k x t pos sub set. absurd (no_note o (Page f i v) t.note);
-    files = λ k f i x sub m set.
-        let e = only_before k sub in
-        absurd (false≢true (sym (trees.empty f i) ∙ ap (λ n. h.maps n f i) (sym (ap h.cut e ∙ trees.first)) ∙ m));
+    files = λ k f i x sub m set. absurd (keep≢set x (sym (ap (λ n. mark_in (transactions_from s.transactions 1 n) (place_at program h s k f i)) (only_before k sub)) ∙ set));
+    opened = opened;
+    stays = λ f i k there sub calm. ap (λ n. place_at program h s n f i) (sym (only_before k sub));
+    given_up = λ o f i g j w there t apart. absurd (no_note o (Page g j w) t.note);
   }

@@ -148,9 +148,9 @@ module _ {A : Type 0} {program : Reads A} {s : Session} {m : Medium} (closed : I
       (λ ge. subst (HasOrigin m.origins b) (let q : o.0 ≡ i = omega arith in q) o.1)
       (cases_lt i o.0)
 
-  -- No block of the log on the medium reads as the commit block of the transaction behind F.
-  pub no_next_commit_header : (p : ℕ) → IsPlace s.ring p → s.format.header (disk_of m.image (s.journal + p)) ≢ Commits (s.sequence + F)
-  no_next_commit_header p at reads =
+  -- No block of the log on the medium reads as the commit block of a transaction behind F.
+  pub no_later_commit_header : (p seq : ℕ) → IsPlace s.ring p → s.sequence + F ≤ seq → s.format.header (disk_of m.image (s.journal + p)) ≢ Commits seq
+  no_later_commit_header p seq at later reads =
       ⊎_elim
       (λ written.
       let o = written.0 in
@@ -159,10 +159,14 @@ module _ {A : Type 0} {program : Reads A} {s : Session} {m : Medium} (closed : I
       let l = put_of_log fits images o p (omega arith) (closed.block_of (s.journal + p) o written.1) in
       let n = log_note s l.0 o l.1 in
       let body = written_body s o (disk_of m.image (s.journal + p)) (body_of_origin closed (s.journal + p) o written.1) in
-      let c = commit_header s n.0 l.0 (s.sequence + F) (s.format.header (body_at s o)) n.2 (layout.header o n.0 n.1) (ap s.format.header body ∙ reads) in
+      let c = commit_header s n.0 l.0 seq (s.format.header (body_at s o)) n.2 (layout.header o n.0 n.1) (ap s.format.header body ∙ reads) in
       let within = is_found.reached l.0 o (subst (HasNote s o) c.0 n.1) (origin_is_kept closed (s.journal + p) o written.1) in
       let pos = order.numbered l.0 o l.1 in
       let same = c.1 in
       omega arith)
-      (λ old. fresh.plain p (s.sequence + F) at (ap s.format.header (sym old) ∙ reads))
+      (λ old. fresh.plain p seq at (omega arith) (ap s.format.header (sym old) ∙ reads))
       (origin_or_base closed (s.journal + p))
+
+  -- So none reads as that of the next one.
+  pub no_next_commit_header : (p : ℕ) → IsPlace s.ring p → s.format.header (disk_of m.image (s.journal + p)) ≢ Commits (s.sequence + F)
+  no_next_commit_header p at = no_later_commit_header p (s.sequence + F) at (omega arith)

@@ -1,7 +1,7 @@
 -- What the blocks of files hold on a recovered disk.
 use Rattle.std.specs.Prelude.{◌≡◌, ℕ, ◌+◌, ◌-◌, ◌<◌, ◌≤◌, true, List, refl}
-use Rattle.std.proofs.Common.{sym, ap, ◌∙◌, ⊎_elim, arith}
-use Rattle.std.proofs.lemmas.Bool.{cases_lt, false≢true}
+use Rattle.std.proofs.Common.{sym, ap, subst, ◌∙◌, ⊎_elim, arith}
+use Rattle.std.proofs.lemmas.Bool.{cases_lt}
 use Rattle.blk_base.specs.Members.{In}
 use Rattle.order_model.specs.OrderClosed.{IsOrderClosed}
 use Rattle.volume_ops.specs.Volume.{disk_of}
@@ -20,7 +20,7 @@ use Rattle.crash_laws.proofs.Histories.{calm_nothing, mapped_was_written, cuts_r
 use Rattle.crash_laws.proofs.LogReads.{log_of_cut_is_tail_to_found}
 use Rattle.crash_laws.proofs.Metadata.{found_submitted, metadata_recovered}
 use Rattle.crash_laws.proofs.Ordering.{before_kept_is_kept}
-use Rattle.crash_laws.proofs.Pages.{page_stays}
+use Rattle.crash_laws.proofs.Pages.{page_stays, opened_stays}
 
 module _ {A : Type 0} {program : Reads A} {s : Session} {m : Medium} {F : ℕ} (rules : OrderRules program s) (closed : IsOrderClosed s.base s.requests m.image m.origins) (is_found : IsFound s m F) where
   recovered_by : (b freed : ℕ) → IsLogFrom s m F freed → recovered_disk s m b ≡ replayed (transactions_from s.transactions (1 + freed) (F - freed)) (disk_of m.image) b
@@ -29,7 +29,7 @@ module _ {A : Type 0} {program : Reads A} {s : Session} {m : Medium} {F : ℕ} (
   metadata_before_journal : (b : ℕ) → In b (blocks_read (image_of s F) program) → b < s.journal
   metadata_before_journal b read =
       ⊎_elim
-      (rules.base.reserved b)
+      (⊎_elim (rules.base.reserved b) (λ keep. rules.base.freeable b keep.0))
       (λ set. rules.images.bodies F b set.0 (found_submitted rules closed is_found) set.1)
       (rules.images.logged F b (found_submitted rules closed is_found) read)
 
@@ -74,11 +74,11 @@ module _ {A : Type 0} {program : Reads A} {s : Session} {m : Medium} {F : ℕ} (
         ∙ file_blocks_untouched (place_at program h s F f i) (λ x set. pages.files F f i x (found_submitted rules closed is_found) there set)
 
     -- the last page that a transaction wrote before its commit block is there, or a later version of it
-    last_page_there : DataBeforeCommit program h s → (f i k : ℕ) → 1 ≤ k → h.maps (h.cut F) f i ≡ true → IsLastChange h f F k → h.maps (h.cut k) f i ≡ true → HasVersion program h s m F f i (last_write h f i (h.cut k))
-    last_page_there order f i k pos there last before =
+    last_page_there : DataBeforeCommit program h s → (f i k : ℕ) → 1 ≤ k → h.maps (h.cut F) f i ≡ true → IsLastChange h f F k → h.maps (h.cut k) f i ≡ true → 1 ≤ last_write h f i (h.cut k) → HasVersion program h s m F f i (last_write h f i (h.cut k))
+    last_page_there order f i k pos there last before wrote =
         let written = mapped_was_written trees f i (h.cut k) before in
         let c = is_found.there k pos last.within in
-        let p = order.sent k c.0 f i c.1 (last.changed pos) before in
+        let p = order.sent k c.0 f i c.1 (last.changed pos) before wrote in
         let to = rules.fits.page p.0 f i (last_write h f i (h.cut k)) p.1 in
         let firm : IsOrderedPut s.requests p.0 = record { put = (to.0, to.1); ordered = p.2 } in
         let kept = before_kept_is_kept closed p.0 c.0 firm p.3 c.2 in
@@ -95,13 +95,19 @@ module _ {A : Type 0} {program : Reads A} {s : Session} {m : Medium} {F : ℕ} (
         → (t : HasVersion program h s m F f i (last_write h f i (h.cut k))) × (disk (h.place (answer disk program) (h.cut F) f i) ≡ h.content f i t.version)
     versions_recovered order f i k there last =
         let before = sym (mapped_since_change trees f i F k last) ∙ there in
-        let pos : 1 ≤ k =
-        ⊎_elim (λ p. p)
-        (λ z.
-        let e : k ≡ 0 = omega arith in
-        absurd (false≢true (sym (trees.empty f i) ∙ ap (λ n. h.maps n f i) (sym (ap h.cut e ∙ trees.first)) ∙ before)))
-        (cases_lt 0 k) in
-        with_place f i k there (last_page_there order f i k pos there last before)
+        let written = mapped_was_written trees f i (h.cut k) before in
+        let le = written.within in
+        let since = calm_since_change trees f i F k last in
+        with_place f i k there
+        (⊎_elim
+        (λ wrote.
+        let pos : 1 ≤ k = ⊎_elim (λ p. p) (λ z. let e : k ≡ 0 = omega arith in let cut = ap h.cut e in let first = trees.first in absurd (omega arith)) (cases_lt 0 k) in
+        last_page_there order f i k pos there last before wrote)
+        (λ none.
+        let e : last_write h f i (h.cut k) ≡ 0 = omega arith in
+        let calm : Calm h f i 0 (h.cut F) = λ n lo hi un. ⊎_elim (λ lt. since n lt hi un) (λ ge. written.calm n (omega arith) ge un) (cases_lt (h.cut k) n) in
+        subst (HasVersion program h s m F f i) (sym e) (opened_stays rules trees pages closed is_found f i (subst (λ n. h.maps n f i ≡ true) e written.there) calm))
+        (cases_lt 0 (last_write h f i (h.cut k))))
       where
         with_place : (f i k : ℕ) → h.maps (h.cut F) f i ≡ true → HasVersion program h s m F f i (last_write h f i (h.cut k))
             → (t : HasVersion program h s m F f i (last_write h f i (h.cut k))) × (disk (h.place (answer disk program) (h.cut F) f i) ≡ h.content f i t.version)

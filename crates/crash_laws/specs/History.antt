@@ -35,8 +35,8 @@ module _ {A : Type 0} (h : History A) where
 
   -- what every history has
   pub record HasTrees : Type 0 where
-    -- it begins with no file
-    pub empty : (f i : ℕ) → h.maps 0 f i ≡ false
+    -- the tree that was opened is the work of no entry
+    pub unwritten : (f i : ℕ) → h.writes 0 f i ≡ false
     -- only a write maps a block, and it leaves it mapped
     pub mapped : (f i n : ℕ) → h.maps n f i ≡ false → h.maps (n + 1) f i ≡ true → h.writes (n + 1) f i ≡ true
     pub written : (f i n : ℕ) → h.writes n f i ≡ true → h.maps n f i ≡ true
@@ -46,10 +46,11 @@ module _ {A : Type 0} (h : History A) where
     -- a transaction that did not change a file neither mapped nor unmapped a block of it
     pub same : (k f i m : ℕ) → h.changes (k + 1) f ≡ false → h.cut k < m → m ≤ h.cut (k + 1) → h.maps m f i ≡ h.maps (m - 1) f i
 
-  -- a mapped block was written, and not unmapped since
+  -- a mapped block was written, or the tree that was opened has it, and it was not unmapped since
   pub record IsWritten (f i n : ℕ) : Type 0 where
     pub within : last_write f i n ≤ n
-    pub wrote : h.writes (last_write f i n) f i ≡ true
+    pub wrote : 1 ≤ last_write f i n → h.writes (last_write f i n) f i ≡ true
+    pub there : h.maps (last_write f i n) f i ≡ true
     pub calm : Calm f i (last_write f i n) n
 
   -- k is the last transaction up to n that changed the file; or there is none, and k is 0

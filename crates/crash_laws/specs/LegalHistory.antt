@@ -1,8 +1,9 @@
 -- The history of a session: which calls its threads began and ended, with which replies, and which such histories
 -- are legal.
 --
--- The entry at place p, counted from 0, has the number p + 1. The tree that was opened is the root alone; its birth is
--- 0, and the birth of each other node is the number of the entry that made it.
+-- The entry at place p, counted from 0, has the number p + 1. No node of the tree that was opened has a birth above `first`,
+-- and the birth of each other node is `first` and the number of the entry that made it. In a session on a new volume that
+-- tree is the root alone, whose birth is 0, as is `first`.
 use Rattle.std.specs.Prelude.{◌≡◌, ◌≢◌, ℕ, ◌+◌, ◌<◌, ◌==◌, ◌⊎◌, Bool, true, false, List, [], ◌∷◌, ◌++◌, filter, length, take, Some, None, if◌then◌else◌}
 use Rattle.std.specs.List.{slice_get}
 use Rattle.tree_model.specs.declared.call.Call.{Call}
@@ -12,7 +13,7 @@ use Rattle.tree_model.specs.declared.call.Reply.TheVariants as replies
 use Rattle.tree_model.specs.declared.call.Room.{Room}
 use Rattle.tree_model.specs.declared.node.Node.TheVariants as nodes
 use Rattle.tree_model.specs.Calls.{Tree, reply_of}
-use Rattle.tree_model.specs.Histories.{Entry, tree_at}
+use Rattle.tree_model.specs.Histories.{Entry, tree_after_entries}
 
 -- a thread begins a barrier or sync call, which it then waits for; or a call of a thread ends with its reply
 pub data Event : Type 0 where
@@ -76,8 +77,8 @@ abbrev pub root_alone : ℕ → Tree
 root_alone width = (0, nodes.Directory (record { parent = 0; width = width; slots = 2; names = [] })) ∷ []
 
 -- the tree after the entries numbered up to n
-abbrev pub tree_up_to : Room → ℕ → List Event → ℕ → Tree
-tree_up_to room width events n = tree_at room (root_alone width) 0 (done_by events) n
+abbrev pub tree_up_to : Room → Tree → ℕ → List Event → ℕ → Tree
+tree_up_to room opened first events n = tree_after_entries room opened first (done_by events) n
 
 -- ---- legal histories
 
@@ -104,12 +105,12 @@ abbrev pub IsBegun : List Event → ℕ → ℕ → Type 0
 IsBegun events i t = has_begun t false (take i events) ≡ true
 
 -- the threads do the calls of their programs in order, and the tree before a call answers it, or it is turned away
-pub record IsLegal (room : Room) (width : ℕ) (programs : ℕ → List Call) (events : List Event) : Type 0 where
+pub record IsLegal (room : Room) (opened : Tree) (first : ℕ) (programs : ℕ → List Call) (events : List Event) : Type 0 where
   pub programs_followed : (t : ℕ) → Follows (of_thread t events) (programs t)
   -- a call that ends at once
-  pub at_once : (i t : ℕ) (c : Call) (r : Reply) → slice_get events i ≡ Some (End t c r) → (IsBegun events i t → ⊥) → IsReply room (tree_up_to room width events i) (i + 1) c r
+  pub at_once : (i t : ℕ) (c : Call) (r : Reply) → slice_get events i ≡ Some (End t c r) → (IsBegun events i t → ⊥) → IsReply room (tree_up_to room opened first events i) (first + (i + 1)) c r
   -- a call begins where the tree does not refuse it, and then is done or turned away
-  pub begins : (i t : ℕ) (c : Call) → slice_get events i ≡ Some (Begin t c) → (is_waiting c ≡ true) × (reply_of room (tree_up_to room width events i) (i + 1) c ≡ replies.Ok)
+  pub begins : (i t : ℕ) (c : Call) → slice_get events i ≡ Some (Begin t c) → (is_waiting c ≡ true) × (reply_of room (tree_up_to room opened first events i) (first + (i + 1)) c ≡ replies.Ok)
   pub ends : (i t : ℕ) (c : Call) (r : Reply) → slice_get events i ≡ Some (End t c r) → IsBegun events i t → (r ≡ replies.Ok) ⊎ (is_turned_away r ≡ true)
   -- behind a reply that the device is off or failed, no other is given
   pub down : (i j t u : ℕ) (c d : Call) (r : Reply) → i < j → slice_get events i ≡ Some (End t c replies.Down) → slice_get events j ≡ Some (End u d r) → r ≡ replies.Down
@@ -117,10 +118,10 @@ pub record IsLegal (room : Room) (width : ℕ) (programs : ℕ → List Call) (e
       → (r ≡ replies.ReadOnly id) ⊎ (r ≡ replies.Down)
 
 -- what one event more owes
-pub record EventClause (room : Room) (width : ℕ) (programs : ℕ → List Call) (events : List Event) (e : Event) : Type 0 where
+pub record EventClause (room : Room) (opened : Tree) (first : ℕ) (programs : ℕ → List Call) (events : List Event) (e : Event) : Type 0 where
   pub followed : Follows (of_thread (thread_of e) (events ++ e ∷ [])) (programs (thread_of e))
-  pub at_once : (t : ℕ) (c : Call) (r : Reply) → e ≡ End t c r → (has_begun t false events ≡ true → ⊥) → IsReply room (tree_up_to room width events (length events)) (length events + 1) c r
-  pub begins : (t : ℕ) (c : Call) → e ≡ Begin t c → (is_waiting c ≡ true) × (reply_of room (tree_up_to room width events (length events)) (length events + 1) c ≡ replies.Ok)
+  pub at_once : (t : ℕ) (c : Call) (r : Reply) → e ≡ End t c r → (has_begun t false events ≡ true → ⊥) → IsReply room (tree_up_to room opened first events (length events)) (first + (length events + 1)) c r
+  pub begins : (t : ℕ) (c : Call) → e ≡ Begin t c → (is_waiting c ≡ true) × (reply_of room (tree_up_to room opened first events (length events)) (first + (length events + 1)) c ≡ replies.Ok)
   pub ends : (t : ℕ) (c : Call) (r : Reply) → e ≡ End t c r → has_begun t false events ≡ true → (r ≡ replies.Ok) ⊎ (is_turned_away r ≡ true)
   pub down : (i t u : ℕ) (c d : Call) (r : Reply) → slice_get events i ≡ Some (End t c replies.Down) → e ≡ End u d r → r ≡ replies.Down
   pub read_only : (i t u id : ℕ) (c d : Call) (r : Reply) → slice_get events i ≡ Some (End t c (replies.ReadOnly id)) → e ≡ End u d r → is_reading d ≡ false

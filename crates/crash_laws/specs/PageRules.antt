@@ -2,6 +2,7 @@
 use Rattle.std.specs.Prelude.{◌≡◌, ℕ, ◌+◌, ◌-◌, ◌<◌, ◌≤◌, ◌⊎◌, true, List}
 use Rattle.order_model.specs.declared.note.Note.TheVariants.{Page}
 use Rattle.order_model.specs.OrderClosed.{IsPutOf, IsPutWith, IsOrdered}
+use Rattle.volume_ops.specs.Volume.{disk_of}
 use Rattle.volume_ops.specs.Reads.{Reads, answer}
 use Rattle.log_model.specs.Marks.{Set, mark_in, transactions_from}
 use Rattle.crash_laws.specs.History.{History, IsUnmapped, Calm, last_write}
@@ -26,9 +27,24 @@ pub record IsGivenUp {A : Type 0} (h : History A) (s : Session) (f i v p o : ℕ
   pub within : entry ≤ h.cut k
   pub unmapped : IsUnmapped h f i entry
 
+-- The same of a block that the tree which was opened has.
+pub record IsGivenUpBefore {A : Type 0} (h : History A) (s : Session) (f i o : ℕ) : Type 0 where
+  pub k : ℕ
+  pub commit : ℕ
+  pub committed : IsCommit s k commit
+  pub before : commit < o
+  pub entry : ℕ
+  pub later : 1 ≤ entry
+  pub within : entry ≤ h.cut k
+  pub unmapped : IsUnmapped h f i entry
+
 -- block z is that of the page (f, i) in the image of transaction k
 abbrev pub place_at : {A : Type 0} → Reads A → History A → Session → ℕ → ℕ → ℕ → ℕ
 place_at program h s k f i = h.place (answer (image_of s k) program) (h.cut k) f i
+
+-- each block of a file of the tree that was opened has its bytes in the base image
+abbrev pub HasOpened : {A : Type 0} → Reads A → History A → Session → Type 0
+HasOpened program h s = (f i : ℕ) → h.maps 0 f i ≡ true → (place_at program h s 0 f i < s.journal) × (disk_of s.base (place_at program h s 0 f i) ≡ h.content f i 0)
 
 module _ {A : Type 0} (program : Reads A) (h : History A) (s : Session) where
   pub record PageOrder : Type 0 where
@@ -46,9 +62,14 @@ module _ {A : Type 0} (program : Reads A) (h : History A) (s : Session) where
         → CommitBefore s (k + 1) p ⊎ ((c : ℕ) × IsCommit s (k - 1) c × (p < c) × (v ≤ h.cut (k - 1)))
     -- no block of a file has a logged body
     pub files : (k f i : ℕ) (x : List ℕ) → IsSubmitted s k → h.maps (h.cut k) f i ≡ true → mark_in (transactions_from s.transactions 1 k) (place_at program h s k f i) ≡ Set x → ⊥
+    -- A block of a file of the tree that was opened has its bytes in the base image. It stays at its place while nothing
+    -- unmaps it, and goes to another page only once a commit block has given it up.
+    pub opened : HasOpened program h s
+    pub stays : (f i k : ℕ) → h.maps 0 f i ≡ true → IsSubmitted s k → Calm h f i 0 (h.cut k) → place_at program h s 0 f i ≡ place_at program h s k f i
+    pub given_up : (o f i g j w : ℕ) → h.maps 0 f i ≡ true → IsPageTo s o g j w (place_at program h s 0 f i) → ((f ≡ g) × (i ≡ j) → ⊥) → IsGivenUpBefore h s f i o
 
-  -- For each file that a transaction changed and each block that it maps at the end, an ordered Page request
-  -- with the last version stands before its commit block, with a barrier between.
+  -- For each file that a transaction changed and each block that it maps at the end and that was written, an ordered
+  -- Page request with the last version stands before its commit block, with a barrier between.
   pub record DataBeforeCommit : Type 0 where
-    pub sent : (k c f i : ℕ) → IsCommit s k c → h.changes k f ≡ true → h.maps (h.cut k) f i ≡ true
+    pub sent : (k c f i : ℕ) → IsCommit s k c → h.changes k f ≡ true → h.maps (h.cut k) f i ≡ true → 1 ≤ last_write h f i (h.cut k)
         → (p : ℕ) × HasNote s p (Page f i (last_write h f i (h.cut k))) × IsOrdered s.requests p × Fenced s.requests p c

@@ -32,12 +32,16 @@ recovered_disk s m = replayed (log_of s.format s.ring s.journal (disk_of m.image
 abbrev pub IsRecovered : Session → Medium → (ℕ → List ℕ) → Type 0
 IsRecovered s m disk = (b : ℕ) → b < s.journal → disk b ≡ recovered_disk s m b
 
+-- What block z has is of a request of the page (f, i) with this version; or it is that of the image which the session
+-- began with, as no request's: version 0.
+pub data IsOf (s : Session) (m : Medium) (f i version z : ℕ) : Type 0 where
+  Sent : (origin : ℕ) → HasNote s origin (Page f i version) → HasOrigin m.origins z origin → IsOf s m f i version z
+  Opened : version ≡ 0 → ((origin : ℕ) → HasOrigin m.origins z origin → ⊥) → IsOf s m f i version z
+
 -- the medium has at the page's block of the image of F this version of it or a later one
 pub record HasVersion {A : Type 0} (program : Reads A) (h : History A) (s : Session) (m : Medium) (F f i v : ℕ) : Type 0 where
-  pub origin : ℕ
   pub version : ℕ
-  pub note : HasNote s origin (Page f i version)
-  pub held : HasOrigin m.origins (place_at program h s F f i) origin
+  pub source : IsOf s m f i version (place_at program h s F f i)
   pub body : disk_of m.image (place_at program h s F f i) ≡ h.content f i version
   pub later : v ≤ version
   pub low : place_at program h s F f i < s.journal

@@ -7,7 +7,7 @@ use Rattle.order_model.specs.OrderClosed.{IsPutOf, IsPutWith, IsPut, IsOrdered, 
 use Rattle.volume_ops.specs.Volume.{disk_of}
 use Rattle.volume_ops.specs.Reads.{Reads, blocks_read}
 use Rattle.log_model.specs.Log.{Tag, Header, Plain, Describes, Revokes, Commits, Spells}
-use Rattle.log_model.specs.Marks.{Set, mark_in, transactions_from}
+use Rattle.log_model.specs.Marks.{Keep, Clear, Set, mark_in, transactions_from}
 use Rattle.log_model.specs.Ring.{places_on, IsPlace}
 use Rattle.crash_laws.specs.Ordering.{Fenced}
 use Rattle.crash_laws.specs.Session.{Session, HasNote, IsLog, IsCommit, body_at, LogBlock, log_blocks, log_blocks_of, bodies_of, sequence_of, IsSuperOf, IsSubmitted, CommitBefore, image_of}
@@ -100,24 +100,36 @@ pub record IsHomeOf (s : Session) (i b : ℕ) : Type 0 where
   pub carried : IsPutWith s.requests i body
   pub mark : mark_in (transactions_from s.transactions 1 k) b ≡ Set body
 
+-- Block b has in the image of k what it has in the base image, of whose metadata it is.
+abbrev pub IsOlder : Session → ℕ → ℕ → Type 0
+IsOlder s k b = In b s.reserved ⊎ (In b s.freeable × (mark_in (transactions_from s.transactions 1 k) b ≡ Keep))
+
+-- Before place i stands the commit block of a transaction at whose end block b is given up.
+abbrev pub IsFreedBefore : Session → ℕ → ℕ → Type 0
+IsFreedBefore s b i = (k : ℕ) × CommitBefore s k i × (mark_in (transactions_from s.transactions 1 k) b ≡ Clear)
+
 -- `program` is the walk that reads the tree of an image.
 pub record Images {A : Type 0} (program : Reads A) (s : Session) : Type 0 where
   -- bodies lie on the volume, and no revoke is of the base image's metadata
   pub bodies : (k b : ℕ) (x : List ℕ) → IsSubmitted s k → mark_in (transactions_from s.transactions 1 k) b ≡ Set x → b < s.journal
   pub revokes : (k i b : ℕ) → IsCommit s k i → In b (s.transactions k).revokes → In b s.reserved → ⊥
   -- each block of metadata is the base image's or was logged
-  pub logged : (k b : ℕ) → IsSubmitted s k → In b (blocks_read (image_of s k) program) → In b s.reserved ⊎ ((x : List ℕ) × (mark_in (transactions_from s.transactions 1 k) b ≡ Set x))
+  pub logged : (k b : ℕ) → IsSubmitted s k → In b (blocks_read (image_of s k) program) → IsOlder s k b ⊎ ((x : List ℕ) × (mark_in (transactions_from s.transactions 1 k) b ≡ Set x))
   pub home : (i b : ℕ) → HasNote s i (Home b) → IsHomeOf s i b
   -- a page that goes to a block with a body, behind the commit block, goes behind the next commit block
   pub pages : (i birth index call z k : ℕ) (x : List ℕ) → HasNote s i (Page birth index call) → IsPutOf s.requests i z → mark_in (transactions_from s.transactions 1 k) z ≡ Set x → CommitBefore s k i → CommitBefore s (k + 1) i
+  -- one that goes to metadata of the base image goes behind the commit block of a transaction that gave it up
+  pub freed : (i birth index call z : ℕ) → HasNote s i (Page birth index call) → IsPutOf s.requests i z → In z s.freeable → IsFreedBefore s z i
 
 -- ---- the base image
 
--- its log is empty, no block of it reads as a commit block, and its metadata lies before the journal
+-- its log is empty, no block of it reads as the commit block of a transaction of the session, and its metadata lies
+-- before the journal
 pub record BaseImage (s : Session) : Type 0 where
   pub start : (s.format.tail (disk_of s.base s.journal)).start ≡ 0
   pub reserved : (b : ℕ) → In b s.reserved → b < s.journal
-  pub plain : (p seq : ℕ) → IsPlace s.ring p → s.format.header (disk_of s.base (s.journal + p)) ≢ Commits seq
+  pub freeable : (b : ℕ) → In b s.freeable → b < s.journal
+  pub plain : (p seq : ℕ) → IsPlace s.ring p → s.sequence ≤ seq → s.format.header (disk_of s.base (s.journal + p)) ≢ Commits seq
 
 -- all of them
 pub record OrderRules {A : Type 0} (program : Reads A) (s : Session) : Type 0 where

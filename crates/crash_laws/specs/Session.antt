@@ -30,8 +30,9 @@ pub record Session : Type 0 where
   pub sequence : ℕ
   -- the bodies and revokes of each transaction
   pub transactions : ℕ → Transaction
-  -- the metadata of the base image
+  -- the metadata of the base image that stays metadata, and the rest of it, which calls may give up
   pub reserved : List ℕ
+  pub freeable : List ℕ
 
 -- a medium, with an origin for each block
 pub record Medium : Type 0 where

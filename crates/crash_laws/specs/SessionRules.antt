@@ -1,14 +1,13 @@
 -- A session as a whole: its calls on trees, its submitted list, and all order rules; and the four sentences on a power
 -- cut, which follow.
-use Rattle.std.specs.Prelude.{◌≡◌, ℕ, ◌≤◌, ◌⊎◌, true, false, List, Ok}
+use Rattle.std.specs.Prelude.{◌≡◌, ℕ, ◌+◌, ◌≤◌, ◌⊎◌, true, false, List, Ok}
 use Rattle.order_model.specs.declared.completion.Completion.{Completion}
-use Rattle.order_model.specs.declared.note.Note.TheVariants.{Page}
-use Rattle.order_model.specs.OrderClosed.{HasOrigin}
 use Rattle.minix_layout.specs.declared.division.Geometry.{Geometry}
 use Rattle.tree_model.specs.declared.call.Call.{Call}
 use Rattle.tree_model.specs.declared.call.Room.{Room}
 use Rattle.tree_model.specs.declared.node.Node.{Node}
 use Rattle.tree_model.specs.Calls.{Tree}
+use Rattle.tree_model.specs.Plain.{IsPlain, AreBornBefore}
 use Rattle.tree_model.specs.Trees.{node_of_path, AreAlike}
 use Rattle.volume_ops.specs.Volume.{disk_of, tree_of}
 use Rattle.volume_ops.specs.Walk.{walk_volume}
@@ -18,7 +17,8 @@ use Rattle.crash_laws.specs.LegalHistory.{Event, tree_up_to}
 use Rattle.crash_laws.specs.PageRules.{PageOrder, DataBeforeCommit}
 use Rattle.crash_laws.specs.PromiseRules.{BegunCall, Covers, CoversEntry, CoversNothing, KeepsBarrier, KeepsSync, IsSuperseded, IsLaterKept}
 use Rattle.crash_laws.specs.Rules.{OrderRules}
-use Rattle.crash_laws.specs.Session.{Session, Medium, HasNote}
+use Rattle.crash_laws.specs.Recovery.{IsOf}
+use Rattle.crash_laws.specs.Session.{Session, Medium}
 use Rattle.crash_laws.specs.TreeHistory.{AreCuts, IsPlaceIn, zone_on_path, history_of, is_barrier, IsAnswered}
 use Rattle.crash_laws.specs.Volumes.{WalkEnd, HasTreesOf}
 
@@ -26,6 +26,9 @@ use Rattle.crash_laws.specs.Volumes.{WalkEnd, HasTreesOf}
 pub record Run : Type 0 where
   pub geometry : Geometry
   pub room : Room
+  -- the tree that was opened, which is plain, and a number above which its nodes have no birth
+  pub opened : Tree
+  pub first : ℕ
   pub events : List Event
   pub cut : ℕ → ℕ
   pub session : Session
@@ -34,34 +37,34 @@ pub record Run : Type 0 where
   pub place : ℕ → WalkEnd → ℕ → ℕ → ℕ
 
 abbrev pub history : Run → History WalkEnd
-history run = history_of run.room run.geometry.width run.events run.cut run.place
+history run = history_of run.room run.opened run.first run.events run.cut run.place
 
 -- the tree after the entries numbered up to n
 abbrev pub tree_at : Run → ℕ → Tree
-tree_at run n = tree_up_to run.room run.geometry.width run.events n
+tree_at run n = tree_up_to run.room run.opened run.first run.events n
 
 -- all order rules
 pub record KeepsRules (run : Run) : Type 0 where
+  pub plain : IsPlain run.opened
+  pub born : AreBornBefore (run.first + 1) run.opened
   pub cuts : AreCuts run.cut
   pub places : (n : ℕ) → IsPlaceIn run.geometry (tree_at run n) (run.place n)
   pub order : OrderRules (walk_volume run.geometry) run.session
   pub trees : HasTreesOf run.geometry run.session (λ k. tree_at run (run.cut k))
   pub pages : PageOrder (walk_volume run.geometry) (history run) run.session
   pub versions : DataBeforeCommit (walk_volume run.geometry) (history run) run.session
-  pub barriers : (c : Call) (begun : BegunCall) (e : ℕ) → IsAnswered run.room run.geometry.width run.events c begun e → is_barrier c ≡ true
+  pub barriers : (c : Call) (begun : BegunCall) (e : ℕ) → IsAnswered run.room run.opened run.first run.events c begun e → is_barrier c ≡ true
       → KeepsBarrier (history run) run.session e (Covers (history run) begun) (CoversEntry begun)
-  pub syncs : (c : Call) (begun : BegunCall) (e : ℕ) → IsAnswered run.room run.geometry.width run.events c begun e → is_barrier c ≡ false
+  pub syncs : (c : Call) (begun : BegunCall) (e : ℕ) → IsAnswered run.room run.opened run.first run.events c begun e → is_barrier c ≡ false
       → KeepsSync (history run) run.session run.taken (Covers (history run) begun) (CoversEntry begun) ⊎ CoversNothing (history run) begun
 
 -- ---- the sentences, of a medium with F kept commit blocks and the blocks that recovery made of it
 
 -- Block `index` of the file to which a path leads in the tree after transaction F is at a block which the medium has
--- from a page request of it with at least this version.
+-- from a page request of it with at least this version, or as it was in the base image.
 pub record HasVersionOnPath (run : Run) (m : Medium) (recovered : List (List ℕ)) (names : List (List ℕ)) (birth index atleast : ℕ) : Type 0 where
-  pub origin : ℕ
   pub version : ℕ
-  pub note : HasNote run.session origin (Page birth index version)
-  pub held : HasOrigin m.origins (zone_on_path run.geometry recovered names index) origin
+  pub source : IsOf run.session m birth index version (zone_on_path run.geometry recovered names index)
   pub body : disk_of recovered (zone_on_path run.geometry recovered names index) ≡ (history run).content birth index version
   pub no_older : atleast ≤ version
 
@@ -90,6 +93,6 @@ pub record Sentences (run : Run) (m : Medium) (recovered : List (List ℕ)) (F :
   pub prefix : HasPrefix run m recovered F
   pub versions : HasVersions run m recovered F
   -- where a write made after a barrier call survived
-  pub barriers : (c : Call) (begun : BegunCall) (e : ℕ) → IsAnswered run.room run.geometry.width run.events c begun e → is_barrier c ≡ true
+  pub barriers : (c : Call) (begun : BegunCall) (e : ℕ) → IsAnswered run.room run.opened run.first run.events c begun e → is_barrier c ≡ true
       → IsLaterKept (history run) run.session m F e → IsSafe run m recovered F begun
-  pub syncs : (c : Call) (begun : BegunCall) (e : ℕ) → IsAnswered run.room run.geometry.width run.events c begun e → is_barrier c ≡ false → IsSafe run m recovered F begun
+  pub syncs : (c : Call) (begun : BegunCall) (e : ℕ) → IsAnswered run.room run.opened run.first run.events c begun e → is_barrier c ≡ false → IsSafe run m recovered F begun

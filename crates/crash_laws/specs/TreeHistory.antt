@@ -1,6 +1,6 @@
 -- What the laws read of a session's calls on trees: which blocks of files its trees map, what wrote them, where its
 -- transactions end, where a walk finds them, and what a call that was answered covers.
-use Rattle.std.specs.Prelude.{◌≡◌, ◌≢◌, ℕ, ◌+◌, ◌-◌, ◌<◌, ◌≤◌, ◌==◌, Bool, true, false, List, [], ◌∷◌, Option, Some, None, Ok, Err, if◌then◌else◌}
+use Rattle.std.specs.Prelude.{◌≡◌, ◌≢◌, ℕ, ◌+◌, ◌-◌, ◌<◌, ◌≤◌, ◌==◌, Bool, true, false, List, [], ◌∷◌, Option, Some, None, Ok, Err, unwrap_or, if◌then◌else◌}
 use Rattle.std.specs.List.{slice_get}
 use Rattle.minix_layout.specs.declared.division.Geometry.{Geometry}
 use Rattle.tree_model.specs.declared.call.Call.{Call}
@@ -8,7 +8,7 @@ use Rattle.tree_model.specs.declared.call.Call.TheVariants as calls
 use Rattle.tree_model.specs.declared.call.Reply.TheVariants as replies
 use Rattle.tree_model.specs.declared.call.Room.{Room}
 use Rattle.tree_model.specs.Calls.{Tree, walk_path}
-use Rattle.tree_model.specs.Histories.{maps, wrote, content, changed_after}
+use Rattle.tree_model.specs.Histories.{maps_block, block_at, writes_among, changed_after}
 use Rattle.tree_model.specs.Trees.{node_of_path, AreAlike}
 use Rattle.volume_ops.specs.declared.found.Found.{Found}
 use Rattle.volume_ops.specs.declared.found.Found.TheVariants as found
@@ -16,7 +16,7 @@ use Rattle.volume_ops.specs.declared.found.FoundNode.{FoundNode}
 use Rattle.volume_ops.specs.declared.found.Mapped.{Mapped}
 use Rattle.volume_ops.specs.Volume.{put_nodes, walked, tree_of}
 use Rattle.crash_laws.specs.History.{History}
-use Rattle.crash_laws.specs.LegalHistory.{Event, Begin, End, thread_of, done_by, root_alone, tree_up_to}
+use Rattle.crash_laws.specs.LegalHistory.{Event, Begin, End, thread_of, done_by, tree_up_to}
 use Rattle.crash_laws.specs.PromiseRules.{BegunCall}
 use Rattle.crash_laws.specs.Volumes.{WalkEnd}
 
@@ -58,14 +58,14 @@ pub record AreCuts (cut : ℕ → ℕ) : Type 0 where
   pub first : cut 0 ≡ 0
   pub rise : (k : ℕ) → cut k ≤ cut (k + 1)
 
--- the calls of a session on the root alone, with these cuts, and a place for each file of its trees
-abbrev pub history_of : Room → ℕ → List Event → (ℕ → ℕ) → (ℕ → WalkEnd → ℕ → ℕ → ℕ) → History WalkEnd
-history_of room width events cut place = record {
+-- the calls of a session from this tree on, with these cuts, and a place for each file of its trees
+abbrev pub history_of : Room → Tree → ℕ → List Event → (ℕ → ℕ) → (ℕ → WalkEnd → ℕ → ℕ → ℕ) → History WalkEnd
+history_of room opened first events cut place = record {
   cut = cut;
-  maps = maps room (root_alone width) 0 (done_by events);
-  writes = wrote room (root_alone width) 0 (done_by events);
-  content = λ birth index n. content room (root_alone width) 0 (done_by events) n birth index;
-  changes = λ k birth. changed_after room (root_alone width) 0 (done_by events) (cut (k - 1)) (cut k - cut (k - 1)) birth;
+  maps = λ n birth index. maps_block (tree_up_to room opened first events n) birth index;
+  writes = writes_among room opened first (done_by events);
+  content = λ birth index n. unwrap_or (block_at (tree_up_to room opened first events n) birth index) [];
+  changes = λ k birth. changed_after room opened first (done_by events) (first + cut (k - 1)) (cut k - cut (k - 1)) birth;
   place = λ found n birth index. place n found birth index;
 }
 
@@ -91,11 +91,11 @@ is_barrier (calls.Fdatabarrier path) = true
 is_barrier other = false
 
 -- Entry e answers Ok to this call, which its thread began before, and did nothing between.
-pub record IsAnswered (room : Room) (width : ℕ) (events : List Event) (c : Call) (begun : BegunCall) (e : ℕ) : Type 0 where
+pub record IsAnswered (room : Room) (opened : Tree) (first : ℕ) (events : List Event) (c : Call) (begun : BegunCall) (e : ℕ) : Type 0 where
   pub thread : ℕ
   pub place : ℕ
   pub began : slice_get events place ≡ Some (Begin thread c)
-  pub covers : begun_call (tree_up_to room width events place) (place + 1) c ≡ Some begun
+  pub covers : begun_call (tree_up_to room opened first events place) (place + 1) c ≡ Some begun
   pub end : ℕ
   pub numbered : e ≡ end + 1
   pub ended : slice_get events end ≡ Some (End thread c replies.Ok)

@@ -90,6 +90,7 @@ module _ {A T V C R : Type 0} {o : Over A T V C R} {Stands : V → T → Type 0}
     rising = was.rising;
     sent = was.sent;
     zones = was.zones;
+    opened = was.opened;
     altered = was.altered;
     in_phase = in_phase;
   }

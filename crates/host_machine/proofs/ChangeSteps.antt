@@ -22,7 +22,7 @@ use Rattle.host_machine.specs.Host.{dropped_pages, written_pages}
 use Rattle.host_machine.specs.Model.{Model, FileBlock, Touched}
 use Rattle.number_sets.specs.Sets.{with_all, without_all}
 use Rattle.host_machine.specs.State.{Setup}
-use Rattle.host_machine.specs.laws.Facts.{View, IsPlain, IsChange, Numbers, Present, Bodies, PlanRevokes, KeepsPlaces, IsCached, PagesMapped, PagesSent, IsLive, IsDead, ZoneHistory, Altered, OnItsWay}
+use Rattle.host_machine.specs.laws.Facts.{View, IsPlain, IsChange, Numbers, Present, Bodies, PlanRevokes, KeepsPlaces, IsCached, PagesMapped, PagesSent, IsLive, IsDead, ZoneHistory, IsOpenedDead, IsFreed, OpenedZones, Altered, OnItsWay}
 
 -- One entry more, in the running transaction: what was told of the old ones stays.
 pub record IsEntry {A : Type 0} (h more : History A) (now r : ℕ) : Type 0 where
@@ -85,6 +85,16 @@ module _ {A : Type 0} {h more : History A} {s : Session} {now r N : ℕ} (entry 
       ap (λ t. if t then suc n else last_write more f i n) (entry.writes (suc n) f i le)
       ∙ ap (λ l. if h.writes (suc n) f i then suc n else l) (last_write_same f i n (omega arith))
 
+  -- what was written before stays written
+  pub last_write_stays : (f i : ℕ) → 1 ≤ last_write h f i now → 1 ≤ last_write more f i (now + 1)
+  last_write_stays f i pos =
+      let e : now + 1 ≡ suc now = omega arith in
+      subst (λ n. 1 ≤ last_write more f i n) (sym e) (by (more.writes (suc now) f i))
+    where
+      by : (t : Bool) → 1 ≤ (if t then suc now else last_write more f i now)
+      by true = omega arith
+      by false = let same = last_write_same f i now (omega arith) in omega arith
+
   -- what is on its way stays as it is
   pub way_grows : {program : Reads A} {k from : ℕ} → k < r → OnItsWay program h s k from → OnItsWay program more s k from
   way_grows {program = program} {k = k} {from = from} lt was = record {
@@ -98,12 +108,16 @@ module _ {A : Type 0} {h more : History A} {s : Session} {now r N : ℕ} (entry 
         let le = c.3 in
         (c.0, c.1, c.2, omega arith);
     files = λ f i x maps set. was.files f i x (maps_then f i maps) (ap (mark_in (transactions_from s.transactions 1 k)) (place_then f i) ∙ set);
+    stays = λ f i there calm.
+        let hi = numbers.cuts k in
+        ap (λ n. more.place (answer (image_of s 0) program) n f i) (entry.cuts 0 (omega arith)) ∙ entry.place (answer (image_of s 0) program) (h.cut 0) f i (numbers.cuts 0)
+        ∙ was.stays f i (sym (entry.maps 0 f i (omega arith)) ∙ there) (λ m a b un. calm m a (omega arith) (unmapped_new extends f i m (omega arith) un)) ∙ place_then f i;
     walked = was.walked;
     low = was.low;
     own = was.own;
-    sent = λ f i ch maps.
-        let x = was.sent f i (sym (entry.changes k f lt) ∙ ch) (maps_then f i maps) in
+    sent = λ f i ch maps wrote.
         let last : last_write h f i (h.cut k) ≡ last_write more f i (more.cut k) = sym (last_write_same f i (h.cut k) (numbers.cuts k)) ∙ ap (last_write more f i) (sym cut) in
+        let x = was.sent f i (sym (entry.changes k f lt) ∙ ch) (maps_then f i maps) (subst (λ n. 1 ≤ n) (sym last) wrote) in
         (x.0, x.1 ∙ ap (λ n. Some (Page f i n)) last, x.2, x.3);
   }
     where
@@ -260,6 +274,65 @@ module _ {A : Type 0} {h more : History A} {s : Session} {now r N : ℕ} (entry 
               given_up = ⊎_elim inl (λ q. inr (q.0, waiting_stays z dead.k q.1)) dead.given_up;
             })
 
+    pub opened_changed : (revoked : List ℕ) → OpenedZones program h s now r N old revoked → OpenedZones program more s (now + 1) r N new (with_all revoked t.revoked)
+    opened_changed revoked was = record {
+      pages = λ f i there. by f i (was.pages f i (sym (entry.maps 0 f i (omega arith)) ∙ there));
+      freeable = λ b i. zone b (was.freeable b i);
+    }
+      where
+        below : N < r
+        below = ⊎_elim (λ e. omega arith) (λ e. omega arith) numbers.closed
+
+        same_place : (f i : ℕ) → place_at program h s 0 f i ≡ place_at program more s 0 f i
+        same_place f i = sym (entry.place (answer (image_of s 0) program) (h.cut 0) f i (numbers.cuts 0)) ∙ ap (λ n. more.place (answer (image_of s 0) program) n f i) (sym (entry.cuts 0 (omega arith)))
+
+        by : (f i : ℕ) → IsLive h now old f i 0 (place_at program h s 0 f i) ⊎ IsOpenedDead h s now N old f i (place_at program h s 0 f i)
+            → IsLive more (now + 1) new f i 0 (place_at program more s 0 f i) ⊎ IsOpenedDead more s (now + 1) N new f i (place_at program more s 0 f i)
+        by f i (inl live) =
+            ⊎_elim
+            (λ there. inl (record {
+              calm = λ m lo hi un.
+                  ⊎_elim
+                  (λ lt. live.calm m lo (omega arith) (unmapped_old extends f i m (omega arith) un))
+                  (λ ge. let e : m ≡ now + 1 = omega arith in false≢true (sym un.after ∙ ap (λ n. more.maps n f i) e ∙ after.mapped f i (place_at program h s 0 f i) there))
+                  (cases_lt m (now + 1));
+              there = there ∙ ap Some (same_place f i);
+            }))
+            (λ none.
+            let cut = entry.running r (omega arith) in
+            let e : now + 1 - 1 ≡ now = omega arith in
+            inr (record {
+              k = r;
+              entry = now + 1;
+              later = omega arith;
+              within = omega arith;
+              unmapped = record {
+                before = ap (λ n. more.maps n f i) e ∙ entry.maps now f i (omega arith) ∙ before.mapped f i (place_at program h s 0 f i) live.there;
+                after = ⊎_elim (λ yes. let y = after.there f i yes in absurd (none-some y.0 (sym none ∙ y.1))) (λ no. no) (cases_Bool (more.maps (now + 1) f i));
+              };
+              of_k = omega arith;
+              given_up = inr (below, ap new.quarantine (sym (same_place f i)) ∙ (c.freed (place_at program h s 0 f i) (c.all_dropped f i (place_at program h s 0 f i) live.there none).0).1);
+            }))
+            (zone_after f i (place_at program h s 0 f i) live.there)
+        by f i (inr dead) =
+            let le = dead.within in
+            let of_k = dead.of_k in
+            inr (record {
+              k = dead.k;
+              entry = dead.entry;
+              later = dead.later;
+              within = omega arith;
+              unmapped = unmapped_new extends f i dead.entry le dead.unmapped;
+              of_k = ⊎_elim (λ lt. let e = entry.cuts dead.k lt in omega arith) (λ ge. let e = entry.running dead.k ge in omega arith) (cases_lt dead.k r);
+              given_up = ⊎_elim inl (λ q. inr (q.0, ap new.quarantine (sym (same_place f i)) ∙ waiting_stays (place_at program h s 0 f i) dead.k q.1)) dead.given_up;
+            })
+
+        zone : (b : ℕ) → (old.metadata b ≡ true) ⊎ In b revoked ⊎ IsFreed s r N old b → (new.metadata b ≡ true) ⊎ In b (with_all revoked t.revoked) ⊎ IsFreed s r N new b
+        zone b (inl meta) = ⊎_elim inl (λ none. inr (inl (with_all-In revoked t.revoked b (inr (c.gone b meta none))))) (cases_Bool (new.metadata b))
+        zone b (inr (inl i)) = inr (inl (with_all-In revoked t.revoked b (inl i)))
+        zone b (inr (inr x)) =
+            inr (inr (record { k = x.k; numbered = x.numbered; closed = x.closed; clear = x.clear; given_up = ⊎_elim inl (λ q. inr (q.0, waiting_stays b x.k q.1)) x.given_up }))
+
     pub altered_changed : (touched changed : List ℕ) → ((f : ℕ) → more.changes r f ≡ true → (h.changes r f ≡ true) ⊎ In f t.nodes) → Altered h s r old touched changed
         → Altered more s r new (without_all (with_all touched t.blocks) t.revoked) (with_all changed t.nodes)
     altered_changed touched changed alters was = record {
@@ -282,12 +355,12 @@ module _ {A : Type 0} {h more : History A} {s : Session} {now r N : ℕ} (entry 
       pub pages_changed : (pages : List CachedPage) → PagesMapped h now old pages → PagesMapped more (now + 1) new (pages_after pages)
       pages_changed pages was = record {
         cached = λ f i p e. cached f i p (written-cases M u v (now + 1) (dropped_pages M u pages t.dropped) t.pages f i p e);
-        all = λ f i z there.
+        all = λ f i z there wrote.
             ⊎_elim
             (λ w. let a = c.all_written f i w in among-written M u v (now + 1) (dropped_pages M u pages t.dropped) t.pages f i (a.0, a.1, a.2, a.3))
             (λ quiet.
             let y = mapped_before f i z there quiet in
-            let p = was.all f i y.0 y.1 in
+            let p = was.all f i y.0 y.1 (subst (λ n. 1 ≤ n) (sym (not_written f i quiet)) wrote) in
             written-stays M u v (now + 1) (dropped_pages M u pages t.dropped) t.pages f i p.0
             (left-dropped M u pages t.dropped f i p.0 p.1
             (λ a. none-some z (sym (ap (λ g. new.zone g i) (sym a.2) ∙ ap (new.zone a.0.birth) (sym a.3) ∙ c.dropped a.0 a.1) ∙ there))))
@@ -305,6 +378,7 @@ module _ {A : Type 0} {h more : History A} {s : Session} {now r N : ℕ} (entry 
                 zone = ap (λ g. new.zone g i) (sym b) ∙ ap (new.zone w.birth) (sym x) ∙ d.1;
                 body = bytes w.block ∙ after.content f i w.block (ap (λ g. new.zone g i) (sym b) ∙ ap (new.zone w.birth) (sym x) ∙ d.1);
                 version = last_written f i (ap (λ g. more.writes (now + 1) g i) (sym b) ∙ ap (more.writes (now + 1) w.birth) (sym x) ∙ d.0);
+                written = omega arith;
               })
           cached f i p (inr (e, none)) =
               let d = dropped-left M u pages t.dropped f i p e in
@@ -317,6 +391,7 @@ module _ {A : Type 0} {h more : History A} {s : Session} {now r N : ℕ} (entry 
                 zone = there;
                 body = o.body ∙ sym (entry.content f i p.version (let e = o.version in let le = last_write_within h f i now in omega arith));
                 version = o.version ∙ not_written f i quiet;
+                written = o.written;
               }
 
       pub sent_changed : (pages : List CachedPage) → PagesSent s pages → PagesSent s (pages_after pages)

@@ -10,7 +10,8 @@ use Rattle.order_model.specs.declared.request.Request.{Request}
 use Rattle.log_model.specs.Marks.{Set, mark_in, transactions_from}
 use Rattle.volume_ops.specs.Reads.{Reads, blocks_read}
 use Rattle.crash_laws.proofs.Growing.{note_old, ordered_old}
-use Rattle.crash_laws.specs.laws.Clauses.{ImageClause}
+use Rattle.crash_laws.specs.Rules.{IsOlder}
+use Rattle.crash_laws.specs.laws.Clauses.{IsFreedNow, ImageClause}
 use Rattle.crash_laws.specs.History.{History, Calm, last_write}
 use Rattle.crash_laws.specs.laws.PageClauses.{NewPageClause, CommitPagesClause, PageClause}
 use Rattle.crash_laws.specs.PageRules.{place_at}
@@ -34,7 +35,7 @@ commit≢home k b e = let z : ⊥ = cc in z
 module _ {A : Type 0} {program : Reads A} {h : History A} {s : Session} (counted : length s.notes ≡ length s.requests) (q : Request) where
   -- ---- a page
 
-  module _ (f i v z : ℕ) (block : kind_block q.kind ≡ Some z) (new : NewPageClause program h s q f i v z) where
+  module _ (f i v z : ℕ) (block : kind_block q.kind ≡ Some z) (new : NewPageClause program h s q f i v z) (freed : In z s.freeable → IsFreedNow s z) where
     pub page_owes : PageClause program h (plainly s counted q (Page f i v))
     page_owes = record {
       page = λ g j w y e put.
@@ -52,6 +53,7 @@ module _ {A : Type 0} {program : Reads A} {h : History A} {s : Session} (counted
       logged = λ k b e read. absurd (page≢commit f i v k e);
       home = λ b e. absurd (page≢home f i v b e);
       page = λ g j w y k x e put set c. new.logged k x c (ap (mark_in (transactions_from s.transactions 1 k)) (same_Some z y (sym block ∙ put)) ∙ set);
+      freed = λ g j w y e put old. let b = same_Some z y (sym block ∙ put) in subst (IsFreedNow s) b (freed (subst (λ x. In x s.freeable) (sym b) old));
     }
 
   -- ---- the commit block of transaction k
@@ -62,7 +64,8 @@ module _ {A : Type 0} {program : Reads A} {h : History A} {s : Session} (counted
       place = way.place;
       logged = way.logged;
       files = way.files;
-      sent = λ f i ch maps. let o = way.sent f i ch maps in let b = fence f i ch maps in let lt = o.3 in let le = b.1 in (o.0, o.1, o.2, (b.0, omega arith, b.2));
+      stays = way.stays;
+      sent = λ f i ch maps wrote. let o = way.sent f i ch maps wrote in let b = fence f i ch maps in let lt = o.3 in let le = b.1 in (o.0, o.1, o.2, (b.0, omega arith, b.2));
     }
 
     pub commit_owes : PageClause program h (plainly s counted q (Commit k))
@@ -77,9 +80,10 @@ module _ {A : Type 0} {program : Reads A} {h : History A} {s : Session} (counted
       revokes = λ l b e j r. way.own b (subst (λ n. In b (s.transactions n).revokes) (sym (same_commit k l e)) j) r;
       logged = λ l b e read.
           let n = same_commit k l e in
-          subst (λ n. In b s.reserved ⊎ ((x : List ℕ) × (mark_in (transactions_from s.transactions 1 n) b ≡ Set x))) n (way.walked b (subst (λ n. In b (blocks_read (image_of s n) program)) (sym n) read));
+          subst (λ n. IsOlder s n b ⊎ ((x : List ℕ) × (mark_in (transactions_from s.transactions 1 n) b ≡ Set x))) n (way.walked b (subst (λ n. In b (blocks_read (image_of s n) program)) (sym n) read));
       home = λ b e. absurd (commit≢home k b e);
       page = λ g j w y l x e put set c. absurd (page≢commit g j w k (sym e));
+      freed = λ g j w y e put old. absurd (page≢commit g j w k (sym e));
     }
 
   -- ---- a request that is neither, nor a home
@@ -106,11 +110,12 @@ module _ {A : Type 0} {program : Reads A} {h : History A} {s : Session} (counted
         (λ l. absurd (no_body f i w z x l.1 l.2 set))
         (page_cases (plainly s counted q n) o f i w z t);
     files = was.files;
+    stays = was.stays;
     walked = was.walked;
     low = was.low;
     own = was.own;
-    sent = λ f i ch maps.
-        let o = was.sent f i ch maps in
+    sent = λ f i ch maps wrote.
+        let o = was.sent f i ch maps wrote in
         (o.0, note_old (plainly s counted q n) o.0 (Page f i (last_write h f i (h.cut k))) o.1, ordered_old s.requests q o.0 o.2, o.3);
   }
 
@@ -123,4 +128,5 @@ other_owes_images counted q n no_page no_commit no_home = record {
   logged = λ k b e read. absurd (no_commit k e);
   home = λ b e. absurd (no_home b e);
   page = λ g j w y k x e put set c. absurd (no_page g j w e);
+  freed = λ g j w y e put old. absurd (no_page g j w e);
 }

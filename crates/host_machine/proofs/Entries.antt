@@ -216,7 +216,7 @@ module _ {T V C R A : Type 0} (M : Model T V C R) (laws : TreeLaws M) (place : A
 
   pub trees_noted : ((k : ℕ) → cut_of cuts (length es) k ≤ cut_of cuts (length es) (k + 1)) → HasTrees (history_of M place es cuts)
   trees_noted rise = record {
-    empty = laws.empty;
+    unwritten = λ f i. refl;
     mapped = λ f i n gone there.
         let e : n + 1 ≡ suc n = omega arith in
         ap (λ m. writes_at M es m f i) e ∙ step_mapped f i n (slice_get es n) gone (ap (λ m. M.maps (tree_after M es m) f i) (sym e) ∙ there);

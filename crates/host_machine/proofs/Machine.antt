@@ -5,7 +5,7 @@ use Rattle.std.specs.Prelude.{◌≡◌, ℕ, suc, ◌+◌, ◌-◌, ◌<◌, �
 use Rattle.blk_base.specs.Members.{In}
 use Rattle.page_cache.specs.declared.cached_page.CachedPage.{CachedPage}
 use Rattle.crash_laws.specs.Session.{Session}
-use Rattle.host_machine.proofs.ChangeSteps.{IsEntry, numbers_grow, way_grows, present_changed, bodies_changed, plan_revokes_changed, places_changed, history_changed, altered_changed, pages_changed, sent_changed}
+use Rattle.host_machine.proofs.ChangeSteps.{IsEntry, numbers_grow, way_grows, present_changed, bodies_changed, plan_revokes_changed, places_changed, history_changed, opened_changed, altered_changed, pages_changed, sent_changed}
 use Rattle.host_machine.proofs.Entries.{tree_old, entry_noted, changes_noted, trees_noted, length_new, cut_closed, cut_open}
 use Rattle.host_machine.proofs.PagesRising.{dropped-rising, written-rising}
 use Rattle.host_machine.specs.Host.{dropped_pages, written_pages}
@@ -15,7 +15,7 @@ use Rattle.host_machine.specs.State.{Entry}
 use Rattle.commit_actor.specs.Journal.{Phase, Idle, Closing, Committing}
 use Rattle.host_machine.specs.Views.{is_answered, cut_of, tree_after}
 use Rattle.host_machine.specs.laws.Contract.{Over, view_of, Contract, noted_history, InPhase, ImagesFacts}
-use Rattle.host_machine.specs.laws.Facts.{IsPlain, IsChange, Numbers, KeepsPlaces, PagesMapped, ZoneHistory}
+use Rattle.host_machine.specs.laws.Facts.{IsPlain, IsChange, Numbers, KeepsPlaces, PagesMapped, ZoneHistory, OpenedZones}
 
 module _ {A T V C R : Type 0} {o : Over A T V C R} {Stands : V → T → Type 0} (contract : Contract o Stands) where
   pub plain_at : (es : List (Entry C R)) (cuts : List ℕ) (s : Session) (v : V) (n : ℕ) → s.journal ≡ o.setup.journal → s.reserved ≡ o.reserved → Stands v (tree_after o.model es n) → IsPlain o.program (noted_history o Stands es cuts) s n (view_of o v)
@@ -115,6 +115,7 @@ module _ {A T V C R : Type 0} {o : Over A T V C R} {Stands : V → T → Type 0}
             rising = written-rising o.model o.setup w (length es + 1) (dropped_pages o.model o.setup pages d.dropped) d.pages (dropped-rising o.model o.setup pages d.dropped facts.rising);
             sent = sent_changed entry facts.numbers trees before after told o.model o.setup w (λ b. refl) pages facts.sent;
             zones = subst (λ n. ZoneHistory (noted_history o Stands (es ++ e ∷ []) cuts) s n N (view_of o w)) grown (history_changed entry facts.numbers trees before after told facts.zones);
+            opened = subst (λ n. OpenedZones o.program (noted_history o Stands (es ++ e ∷ []) cuts) s n r N (view_of o w) (with_all revoked d.revoked)) grown (opened_changed entry facts.numbers trees before after told revoked facts.opened);
             altered = altered_changed entry facts.numbers trees before after told touched changed
                 (λ f ch. ⊎_elim inl (λ new. inr (nodes f new)) (changes_noted o.model es e o.place cuts r facts.closed facts.numbers.cuts f ch)) facts.altered;
             in_phase = phase_stays facts.in_phase;

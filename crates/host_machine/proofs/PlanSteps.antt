@@ -18,15 +18,15 @@ use Rattle.crash_laws.specs.laws.Submitting.{Submitting, after}
 use Rattle.host_machine.proofs.Entries.{trees_noted, cut_noted, history_noted, index_push, index_push_left}
 use Rattle.host_machine.proofs.Machine.{plain_at}
 use Rattle.host_machine.proofs.PlanNotes.{plan-rest, plan-barrier}
-use Rattle.host_machine.proofs.Plans.{walk_before, walk_of_image, bodies_in, on_its_way, numbers_closed, present_closed, bodies_closed, plan_revokes_closed, places_closed, sent_told, history_told}
-use Rattle.host_machine.proofs.Sends.{plainly, page≢commit, numbers_committed, history_committed, sent_pushed}
+use Rattle.host_machine.proofs.Plans.{walk_before, walk_of_image, bodies_in, on_its_way, numbers_closed, present_closed, bodies_closed, plan_revokes_closed, places_closed, opened_closed, sent_told, history_told}
+use Rattle.host_machine.proofs.Sends.{plainly, page≢commit, numbers_committed, history_committed, opened_committed, sent_pushed}
 use Rattle.host_machine.specs.Host.{build_plan, committed, send_planned}
 use Rattle.journal_ring.specs.running.Plan.{Planned, plan_of}
 use Rattle.host_machine.specs.State.{Host}
 use Rattle.commit_actor.specs.Journal.{Plan}
 use Rattle.host_machine.specs.Views.{cut_of, some_in, alters_at, tree_after, transaction_of, waits_for}
 use Rattle.host_machine.specs.laws.Contract.{IsAlike, Over, view_of, Contract, noted_history, ImagesFacts, session, KeepsImages}
-use Rattle.host_machine.specs.laws.Facts.{View, Numbers, Present, Bodies, KeepsPlaces, PagesMapped, ZoneHistory, Altered, OnItsWay}
+use Rattle.host_machine.specs.laws.Facts.{View, Numbers, Present, Bodies, KeepsPlaces, PagesMapped, ZoneHistory, OpenedZones, Altered, OnItsWay}
 use Rattle.host_machine.specs.laws.PlanNotes.{IsRestOf, BarrierAhead}
 
 module _ {A T V C R : Type 0} {o : Over A T V C R} {Stands : V → T → Type 0} (contract : Contract o Stands) (s : Host V C R) (txs : List Transaction) (N : ℕ) (facts : KeepsImages o Stands s txs N) where
@@ -87,6 +87,8 @@ module _ {A T V C R : Type 0} {o : Over A T V C R} {Stands : V → T → Type 0}
             rising = f.rising;
             sent = sent_told transactions f.sent;
             zones = subst (λ h. ZoneHistory h (record (session o Stands txs s) { transactions = transactions }) now N (view_of o s.volume)) same_history (history_told transactions f.zones);
+            opened = subst (λ h. OpenedZones o.program h (record (session o Stands txs s) { transactions = transactions }) now (r + 1) N (view_of o s.volume) []) same_history
+                (opened_closed trees order f.numbers plain f.present f.bodies f.zones transactions same_transactions_told new_transaction all_closed f.opened);
             altered = subst (λ h. Altered h (record (session o Stands txs s) { transactions = transactions }) (r + 1) (view_of o s.volume) [] []) same_history
                 (record { listed = λ g ch. absurd (false≢true (sym (none_yet g) ∙ ch)); not_empty = λ g i z l. absurd l });
             in_phase = record {
@@ -98,7 +100,7 @@ module _ {A T V C R : Type 0} {o : Over A T V C R} {Stands : V → T → Type 0}
               within = omega arith;
               owed = subst (λ h. OnItsWay o.program h (record (session o Stands txs s) { transactions = transactions }) (r + 1 - 1) (length s.journal.flush.notes)) same_history
                   (subst (λ k. OnItsWay o.program before (record (session o Stands txs s) { transactions = transactions }) k (length s.journal.flush.notes)) (sym last)
-                  (on_its_way trees order f.numbers plain f.present f.bodies f.zones transactions same_transactions_told new_transaction all_closed f.mapped f.sent f.altered all_sent));
+                  (on_its_way trees order f.numbers plain f.present f.bodies f.zones transactions same_transactions_told new_transaction all_closed f.mapped f.sent f.altered f.opened all_sent));
               barred = λ g i l maps.
                   let cut : after_plan.cut (r + 1 - 1) ≡ now = ap after_plan.cut last ∙ cut_noted s.cuts now r ∙ f.numbers.running r (omega arith) in
                   let z = plain.there g i (ap (λ n. before.maps n g i) (sym cut) ∙ maps) in
@@ -173,13 +175,15 @@ module _ {A T V C R : Type 0} {o : Over A T V C R} {Stands : V → T → Type 0}
       places = subst (λ x. KeepsPlaces o.program before (after sub) now r x) same_view (record { kept = f.places.kept });
       mapped = subst (λ x. PagesMapped before now x s.pages) same_view
           (record {
-            cached = λ g i q e. let c = f.mapped.cached g i q e in record { birth = c.birth; index = c.index; zone = c.zone; body = c.body; version = c.version };
+            cached = λ g i q e. let c = f.mapped.cached g i q e in record { birth = c.birth; index = c.index; zone = c.zone; body = c.body; version = c.version; written = c.written };
             all = f.mapped.all;
           });
       rising = f.rising;
       sent = sent_pushed sub (λ g i w e. page≢commit g i w (N + 1) (sym e ∙ note_next)) f.sent;
       zones = subst (λ x. ZoneHistory before (after sub) now (N + 1) x) same_view
           (history_committed sub {v = view_of o s.volume} {w = released} note_next (λ g i. refl) (λ z j lt e. contract.waits_on s.volume k j z (omega arith) e) f.zones);
+      opened = subst (λ x. OpenedZones o.program before (after sub) now r (N + 1) x s.journal.running.revoked) same_view
+          (opened_committed sub {v = view_of o s.volume} {w = released} note_next (λ g i. refl) (λ b. refl) (λ z j lt e. contract.waits_on s.volume k j z (omega arith) e) (λ j. refl) f.opened);
       altered = subst (λ x. Altered before (after sub) r x s.journal.running.touched s.journal.running.changed) same_view (record { listed = f.altered.listed; not_empty = f.altered.not_empty });
       in_phase = let e : N + 1 + 1 ≡ r = omega arith in e;
     },

@@ -18,11 +18,11 @@ use Rattle.crash_laws.proofs.LogSteps.{same_transactions}
 use Rattle.crash_laws.proofs.PlanSteps.{behind_later}
 use Rattle.crash_laws.specs.History.{History, last_write, HasTrees}
 use Rattle.crash_laws.specs.PageRules.{IsPageTo, place_at}
-use Rattle.crash_laws.specs.Rules.{CommitOrder}
+use Rattle.crash_laws.specs.Rules.{CommitOrder, IsOlder}
 use Rattle.crash_laws.specs.Session.{Session, IsCommit, image_of}
 use Rattle.number_sets.specs.laws.Members.{has-In, In-has}
 use Rattle.number_sets.specs.Sets.{has}
-use Rattle.host_machine.specs.laws.Facts.{View, IsPlain, Numbers, Present, Bodies, PlanRevokes, KeepsPlaces, PagesMapped, PagesSent, ZoneHistory, Altered, OnItsWay}
+use Rattle.host_machine.specs.laws.Facts.{View, IsPlain, Numbers, Present, Bodies, PlanRevokes, KeepsPlaces, PagesMapped, PagesSent, ZoneHistory, IsFreed, OpenedZones, Altered, OnItsWay}
 
 -- the bodies that blocks have now
 abbrev pub bodies_in : (ℕ → List ℕ) → List ℕ → List Logged
@@ -118,14 +118,14 @@ module _ {A : Type 0} {program : Reads A} {h : History A} {s : Session} {now r N
       (present.present b meta))
       (cases_Bool (has touched b))
 
-  logged_or_reserved : (b : ℕ) → v.metadata b ≡ true → In b s.reserved ⊎ ((x : List ℕ) × (mark_in (transactions_from transactions 1 r) b ≡ Set x))
+  logged_or_reserved : (b : ℕ) → v.metadata b ≡ true → IsOlder told r b ⊎ ((x : List ℕ) × (mark_in (transactions_from transactions 1 r) b ≡ Set x))
   logged_or_reserved b meta =
       ⊎_elim
       (λ t. inr (v.bytes b, mark_touched b meta (has-In touched b t)))
       (λ f.
       ⊎_elim
       (λ i. absurd (false≢true (sym f ∙ In-has touched b i)))
-      (λ old. ⊎_elim inl (λ set. inr (set.0, mark_kept b meta f ∙ set.1)) old.1)
+      (λ old. ⊎_elim (λ older. inl (⊎_elim inl (λ keep. inr (keep.0, mark_kept b meta f ∙ keep.1)) older)) (λ set. inr (set.0, mark_kept b meta f ∙ set.1)) old.1)
       (present.present b meta))
       (cases_Bool (has touched b))
 
@@ -155,9 +155,9 @@ module _ {A : Type 0} {program : Reads A} {h : History A} {s : Session} {now r N
 
   -- ---- what the commit block will owe
 
-  pub on_its_way : {pages : List CachedPage} {changed : List ℕ} → PagesMapped h now v pages → PagesSent s pages → Altered h s r v touched changed
+  pub on_its_way : {pages : List CachedPage} {changed : List ℕ} → PagesMapped h now v pages → PagesSent s pages → Altered h s r v touched changed → OpenedZones program h s now r N v revoked
       → ((f i : ℕ) (p : CachedPage) → In f changed → page_at pages f i ≡ Some p → p.state ≡ Firm) → OnItsWay program h told r (length s.notes)
-  on_its_way mapped sent altered all_sent = record {
+  on_its_way mapped sent altered opened all_sent = record {
     place = λ o f i w z page maps calm back.
         ⊎_elim
         (λ live. sym (place_of_page f i z live.there))
@@ -168,13 +168,18 @@ module _ {A : Type 0} {program : Reads A} {h : History A} {s : Session} {now r N
         let z = plain.there f i (ap (λ n. h.maps n f i) (sym (numbers.running r (omega arith))) ∙ maps) in
         let meta = bodies_after z.0 x (ap (mark_in (transactions_from transactions 1 r)) (sym (place_of_page f i z.0 z.1)) ∙ set) in
         false≢true (sym (plain.page_free f i z.0 z.1).0 ∙ meta);
+    stays = λ f i there calm.
+        ⊎_elim
+        (λ live. sym (place_of_page f i (place_at program h s 0 f i) live.there))
+        (λ dead. let le = dead.within in let e = numbers.running r (omega arith) in absurd (calm dead.entry dead.later (omega arith) dead.unmapped))
+        (opened.pages f i there);
     walked = λ b read. logged_or_reserved b (plain.walk b (subst (In b) (blocks_read-agree v.bytes (image_of told r) program agrees) read));
     low = λ b x set. plain.metadata_low b (bodies_after b x set);
     own = λ b i e. bodies.own b (subst (λ (t : Transaction). In b t.revokes) planned i) e;
-    sent = λ f i ch maps.
+    sent = λ f i ch maps wrote.
         let e = numbers.running r (omega arith) in
         let z = plain.there f i (ap (λ n. h.maps n f i) (sym e) ∙ maps) in
-        let p = mapped.all f i z.0 z.1 in
+        let p = mapped.all f i z.0 z.1 (subst (λ n. 1 ≤ last_write h f i n) e wrote) in
         let o = sent.firm f i p.0 p.1 (all_sent f i p.0 (altered.listed f ch) p.1) in
         let version = (mapped.cached f i p.0 p.1).version ∙ ap (last_write h f i) (sym e) in
         (o.0, o.1.note ∙ ap (λ w. Some (Page f i w)) version, o.2, slice_get-length s.notes o.0 (Page f i p.0.version) o.1.note);
@@ -219,7 +224,7 @@ module _ {A : Type 0} {program : Reads A} {h : History A} {s : Session} {now r N
     present = λ b meta.
         inr (
           sym (image_is_present b meta) ∙ ap (λ k. image_of told k b) (sym last_closed),
-          ⊎_elim inl (λ set. inr (set.0, ap (λ k. mark_in (transactions_from transactions 1 k) b) last_closed ∙ set.1)) (logged_or_reserved b meta),
+          ⊎_elim (λ older. inl (⊎_elim inl (λ keep. inr (keep.0, ap (λ k. mark_in (transactions_from transactions 1 k) b) last_closed ∙ keep.1)) older)) (λ set. inr (set.0, ap (λ k. mark_in (transactions_from transactions 1 k) b) last_closed ∙ set.1)) (logged_or_reserved b meta),
         );
   }
 
@@ -245,6 +250,29 @@ module _ {A : Type 0} {program : Reads A} {h : History A} {s : Session} {now r N
         (λ ge. let e : r ≡ k = omega arith in sym (place_of_page f i z there) ∙ ap (λ n. place_at program h told n f i) e)
         (cases_lt k r);
   }
+
+  pub opened_closed : OpenedZones program h s now r N v revoked → OpenedZones program h told now (r + 1) N v []
+  opened_closed was = record {
+    pages = λ f i there.
+        ⊎_elim (λ live. inl (record { calm = live.calm; there = live.there }))
+        (λ dead. inr (record { k = dead.k; entry = dead.entry; later = dead.later; within = dead.within; unmapped = dead.unmapped; of_k = dead.of_k; given_up = dead.given_up }))
+        (was.pages f i there);
+    freeable = λ b i. zone b (was.freeable b i);
+  }
+    where
+      zone : (b : ℕ) → (v.metadata b ≡ true) ⊎ In b revoked ⊎ IsFreed s r N v b → (v.metadata b ≡ true) ⊎ In b [] ⊎ IsFreed told (r + 1) N v b
+      zone b (inl meta) = inl meta
+      zone b (inr (inl i)) =
+          inr (inr (record {
+            k = r;
+            numbered = omega arith;
+            closed = omega arith;
+            clear = mark_after b ∙ ap (λ u. followed (mark_in (transactions_from s.transactions 1 (r - 1)) b) (followed (bodies_mark (bodies_in v.bytes touched) b) (if u then Clear else Keep))) (In-has revoked b i);
+            given_up = inr (omega arith, bodies.waits b i);
+          }))
+      zone b (inr (inr x)) =
+          let lt = x.closed in
+          inr (inr (record { k = x.k; numbered = x.numbered; closed = omega arith; clear = ap (λ txs. mark_in txs b) (runs x.k lt) ∙ x.clear; given_up = x.given_up }))
 
 -- ---- where nothing is told anew but transactions
 

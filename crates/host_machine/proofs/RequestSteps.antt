@@ -16,7 +16,8 @@ use Rattle.page_cache.specs.declared.cached_page.PageState.TheVariants.{Clean, L
 use Rattle.page_cache.specs.laws.Order.{put-rising}
 use Rattle.crash_laws.proofs.Growing.{fence_old}
 use Rattle.crash_laws.proofs.Histories.{mapped_was_written}
-use Rattle.crash_laws.specs.laws.Clauses.{FitsClause, ImageClause}
+use Rattle.blk_base.specs.Members.{In}
+use Rattle.crash_laws.specs.laws.Clauses.{FitsClause, IsFreedNow, ImageClause}
 use Rattle.crash_laws.specs.History.{last_write, HasTrees}
 use Rattle.crash_laws.specs.laws.PageClauses.{NewPageClause, PageClause}
 use Rattle.crash_laws.specs.Session.{Session}
@@ -25,7 +26,7 @@ use Rattle.host_machine.proofs.ChangeSteps.{last_write_within}
 use Rattle.host_machine.proofs.Commits.{page_owes, page_owes_images, way_pushed}
 use Rattle.host_machine.proofs.Entries.{trees_noted}
 use Rattle.host_machine.proofs.Machine.{plain_at}
-use Rattle.host_machine.proofs.Sends.{plainly, page≢commit, page_clause, no_body_now, numbers_pushed, history_pushed, sent_pushed, mapped_marked, sent_marked}
+use Rattle.host_machine.proofs.Sends.{plainly, page≢commit, page_clause, freed_now, no_body_now, numbers_pushed, history_pushed, opened_pushed, sent_pushed, mapped_marked, sent_marked}
 use Rattle.host_machine.specs.Host.{send_page}
 use Rattle.host_machine.specs.State.{Entry, Host}
 use Rattle.commit_actor.specs.Journal.{Phase, Idle, Closing, Committing}
@@ -44,13 +45,16 @@ module _ {A T V C R : Type 0} {o : Over A T V C R} {Stands : V → T → Type 0}
     -- A page that is cached may be sent: what it owes of pages, of images and of its note.
     module _ (q : Request) (f i : ℕ) (p : CachedPage) (here : page_at pages f i ≡ Some p) (block : kind_block q.kind ≡ Some p.block) (body : kind_body q.kind ≡ Some p.body) where
       new_page : NewPageClause o.program (noted_history o Stands es cuts) s q f i p.version p.block
-      new_page = page_clause facts.numbers plain facts.bodies facts.plan_revokes trees facts.places facts.mapped facts.sent facts.zones q f i p here body
+      new_page = page_clause facts.numbers plain facts.bodies facts.plan_revokes trees facts.places facts.mapped facts.sent facts.zones facts.opened q f i p here body
+
+      freed : In p.block s.freeable → IsFreedNow s p.block
+      freed = freed_now facts.numbers plain facts.bodies facts.plan_revokes f i p.block facts.opened (facts.mapped.cached f i p here).zone
 
       pub page_owes_pages : PageClause o.program (noted_history o Stands es cuts) (plainly s facts.counted q (notes.Page f i p.version))
-      page_owes_pages = page_owes facts.counted q f i p.version p.block block new_page
+      page_owes_pages = page_owes facts.counted q f i p.version p.block block new_page freed
 
       pub page_owes_image : ImageClause o.program (plainly s facts.counted q (notes.Page f i p.version))
-      page_owes_image = page_owes_images facts.counted q f i p.version p.block block new_page
+      page_owes_image = page_owes_images facts.counted q f i p.version p.block block new_page freed
 
       pub page_fits : FitsClause s q (notes.Page f i p.version)
       page_fits = record {
@@ -129,6 +133,7 @@ module _ {A T V C R : Type 0} {o : Over A T V C R} {Stands : V → T → Type 0}
             let last = there.1 in
             let written = mapped_was_written trees f i (length es) (plain.mapped f i z there.0) in
             record { calm = λ m lo hi un. written.calm m (omega arith) hi un; there = there.0 }) facts.zones;
+        opened = opened_pushed (plainly s facts.counted q n) no_commit (λ k. refl) facts.opened;
         altered = record { listed = facts.altered.listed; not_empty = facts.altered.not_empty };
         in_phase = way facts.in_phase;
       }

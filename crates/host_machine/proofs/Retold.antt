@@ -89,13 +89,14 @@ module _ {s : Session} (order : CommitOrder s) (transactions : ℕ → Transacti
       revokes = λ k i b h j r. was.images.revokes k i b h (subst (λ (t : Transaction). In b t.revokes) (same k i h) j) r;
       logged = λ k b sub read.
           let o = submitted_before k sub in
-          ⊎_elim inl (λ set. inr (set.0, marks k b o ∙ set.1)) (was.images.logged k b o (subst (λ f. In b (blocks_read f program)) (images k o) read));
+          ⊎_elim (λ older. inl (⊎_elim inl (λ keep. inr (keep.0, marks k b o ∙ keep.1)) older)) (λ set. inr (set.0, marks k b o ∙ set.1)) (was.images.logged k b o (subst (λ f. In b (blocks_read f program)) (images k o) read));
       home = λ i b h.
           let o = was.images.home i b h in
           record { k = o.k; committed = o.committed; newest = o.newest; body = o.body; carried = o.carried; mark = marks o.k b (Submitted o.committed.0 o.committed.1) ∙ o.mark };
       pages = λ i f x v z k y h put set c. was.images.pages i f x v z k y h put (sym (marks k z (Submitted c.0 c.1)) ∙ set) c;
+      freed = λ i f x v z h put old. let c = was.images.freed i f x v z h put old in (c.0, c.1, marks c.0 z (Submitted c.1.0 c.1.1) ∙ c.2);
     };
-    base = record { start = was.base.start; reserved = was.base.reserved; plain = was.base.plain };
+    base = record { start = was.base.start; reserved = was.base.reserved; freeable = was.base.freeable; plain = was.base.plain };
   }
     where
       freed_submitted : (i freed : ℕ) → IsSuperOf s i freed → IsSubmitted s freed
@@ -125,6 +126,11 @@ module _ {s : Session} (order : CommitOrder s) (transactions : ℕ → Transacti
       files = λ k f i x sub m set.
           let o = submitted_before k sub in
           was.files k f i x o m (sym (marks k (place_at program h s k f i) o) ∙ ap (mark_in (transactions_from transactions 1 k)) (sym (place_same k f i o)) ∙ set);
+      opened = was.opened;
+      stays = λ f i k there sub calm. was.stays f i k there (submitted_before k sub) calm ∙ sym (place_same k f i (submitted_before k sub));
+      given_up = λ o f i g j w there t apart.
+          let x = was.given_up o f i g j w there (page_before o g j w (place_at program h s 0 f i) t) apart in
+          record { k = x.k; commit = x.commit; committed = x.committed; before = x.before; entry = x.entry; later = x.later; within = x.within; unmapped = x.unmapped };
     }
 
     pub data_retold : DataBeforeCommit program h s → DataBeforeCommit program h retold

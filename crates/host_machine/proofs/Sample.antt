@@ -173,7 +173,6 @@ remove_told (Some x) w n r free = record {
 
 tree_laws : TreeLaws model
 tree_laws = record {
-  empty = λ f i. nothing_there (is_it f i);
   mapped = λ t n c f i gone there. mapped t n c f i gone there;
   written = λ t n c f i w. written t n c f i w;
   same = λ t n c f i a. same t n c f i a;
@@ -279,14 +278,20 @@ contract = record {
 
 -- ---- a session over it keeps the facts and the rules
 
+none_there : (b : Bool) → (b && false) ≡ false
+none_there true = refl
+none_there false = refl
+
 pub begun_keeps : Keeps over Stands begun_host [] 0
 begun_keeps =
     opened_keeps contract empty ring 8 100 ((WriteIt ∷ RemoveIt ∷ []) ∷ [])
     (record { same = refl; free = λ x e. refl })
-    (λ b m. let e = eqb-true b 1 m in (inl (sym e), ap (bytes_of None) e ∙ ap (disk_of over.base) (sym e)))
+    (λ b m. let e = eqb-true b 1 m in (inl (inl (sym e)), ap (bytes_of None) e ∙ ap (disk_of over.base) (sym e)))
+    (λ b i. absurd i)
+    (λ f i z there. absurd (false≢true (sym (none_there (is_it f i)) ∙ (zone-parts None f i z there).0)))
     (omega arith) (omega arith, omega arith)
-    (record { start = refl; reserved = λ b i. let e = eqb-true b 1 (one b i) in omega arith; plain = λ p seq i e. let z : ⊥ = cc in z })
-    (λ b i. i)
+    (record { start = refl; reserved = λ b i. let e = eqb-true b 1 (one b i) in omega arith; freeable = λ b i. absurd i; plain = λ p seq i since e. let z : ⊥ = cc in z })
+    (λ b i. inl i)
 
 -- after both calls, the file is written and removed
 pub both_keep : Keeps over Stands both_done [] 0

@@ -19,11 +19,14 @@ use Rattle.crash_laws.proofs.Growing.{note_old, note_new, note_cases, put_old, p
 use Rattle.crash_laws.proofs.Histories.{mapped_was_written}
 use Rattle.crash_laws.proofs.SendSteps.{no_earlier_body}
 use Rattle.crash_laws.specs.History.{History, last_write, HasTrees}
-use Rattle.crash_laws.specs.laws.PageClauses.{NewPageClause, IsGivenUpNow}
-use Rattle.crash_laws.specs.PageRules.{IsPageTo}
+use Rattle.crash_laws.proofs.LogSteps.{same_transactions}
+use Rattle.crash_laws.specs.laws.Clauses.{IsFreedNow}
+use Rattle.crash_laws.specs.laws.PageClauses.{NewPageClause, IsGivenUpNow, IsOpenedGivenUp}
+use Rattle.blk_base.specs.Members.{In}
+use Rattle.crash_laws.specs.PageRules.{IsPageTo, place_at}
 use Rattle.crash_laws.specs.Session.{Session, HasNote, IsSubmitted, Before, Submitted}
 use Rattle.crash_laws.specs.laws.Submitting.{Submitting, after, new_place, IsCommitted}
-use Rattle.host_machine.specs.laws.Facts.{View, IsPlain, Numbers, Bodies, PlanRevokes, KeepsPlaces, IsCached, PagesMapped, PagesSent, IsLive, IsDead, ZoneHistory}
+use Rattle.host_machine.specs.laws.Facts.{View, IsPlain, Numbers, Bodies, PlanRevokes, KeepsPlaces, IsCached, PagesMapped, PagesSent, IsLive, IsDead, ZoneHistory, IsOpenedDead, IsFreed, OpenedZones}
 
 -- ---- what a page owes
 
@@ -48,7 +51,21 @@ module _ {A : Type 0} {program : Reads A} {h : History A} {s : Session} {now r N
   submitted_closed k (Before none) = ⊎_elim (λ e. omega arith) (λ e. omega arith) numbers.closed
   submitted_closed k (Submitted c g) = let le = numbers.no_more k c g in ⊎_elim (λ e. omega arith) (λ e. omega arith) numbers.closed
 
-  module _ {pages : List CachedPage} (trees : HasTrees h) (places : KeepsPlaces program h s now r v) (mapped : PagesMapped h now v pages) (sent : PagesSent s pages) (history : ZoneHistory h s now N v) where
+  -- a page goes to metadata of the base image only once that was given up
+  pub freed_now : (f i z : ℕ) → OpenedZones program h s now r N v revoked → v.zone f i ≡ Some z → In z s.freeable → IsFreedNow s z
+  freed_now f i z opened there old =
+      ⊎_elim
+      (λ meta. absurd (false≢true (sym (plain.page_free f i z there).0 ∙ meta)))
+      (⊎_elim
+      (λ i_revoked. absurd (no_quarantine f i z r there (bodies.waits z i_revoked)))
+      (λ x.
+      ⊎_elim
+      (λ le. let c = numbers.committed x.k x.numbered le in (x.k, c, x.clear))
+      (λ waits. absurd (no_quarantine f i z x.k there waits.1))
+      x.given_up))
+      (opened.freeable z old)
+
+  module _ {pages : List CachedPage} (trees : HasTrees h) (places : KeepsPlaces program h s now r v) (mapped : PagesMapped h now v pages) (sent : PagesSent s pages) (history : ZoneHistory h s now N v) (opened : OpenedZones program h s now r N v revoked) where
     pub page_clause : (q : Request) (f i : ℕ) (p : CachedPage) → page_at pages f i ≡ Some p → kind_body q.kind ≡ Some p.body → NewPageClause program h s q f i p.version p.block
     page_clause q f i p here body =
         let cached = mapped.cached f i p here in
@@ -57,7 +74,7 @@ module _ {A : Type 0} {program : Reads A} {h : History A} {s : Session} {now r N
         let version = cached.version in
         record {
           content = body ∙ ap Some cached.body;
-          there = ap (λ w. h.maps w f i) version ∙ trees.written f i (last_write h f i now) written.wrote;
+          there = ap (λ w. h.maps w f i) version ∙ written.there;
           place = λ k sub maps before behind.
               places.kept k f i p.block (submitted_closed k sub) maps
               (λ m lo hi un. ⊎_elim (λ later. written.calm m later hi un) (λ early. behind m lo (omega arith) un) (cases_lt (last_write h f i now) m))
@@ -65,8 +82,17 @@ module _ {A : Type 0} {program : Reads A} {h : History A} {s : Session} {now r N
           versions = λ o w y page. sent.older o f i w y p page here;
           another = λ o g j w page apart. given_up o g j w page apart there (history.live_or_dead o g j w p.block page);
           logged = λ k x c set. next k x c there set;
+          given_up = λ g j maps at apart. opened_given_up g j at apart there (opened.pages g j maps);
         }
       where
+        opened_given_up : (g j : ℕ) → p.block ≡ place_at program h s 0 g j → ((g ≡ f) × (j ≡ i) → ⊥) → v.zone f i ≡ Some p.block → IsLive h now v g j 0 (place_at program h s 0 g j) ⊎ IsOpenedDead h s now N v g j (place_at program h s 0 g j) → IsOpenedGivenUp h s g j
+        opened_given_up g j at apart there (inl live) = absurd (apart (plain.one_page g j f i p.block (live.there ∙ ap Some (sym at)) there))
+        opened_given_up g j at apart there (inr dead) =
+            ⊎_elim
+            (λ c. record { k = dead.k; commit = c.0; committed = c.1; entry = dead.entry; later = dead.later; within = dead.of_k; unmapped = dead.unmapped })
+            (λ waits. absurd (no_quarantine f i p.block dead.k there (ap v.quarantine at ∙ waits.1)))
+            dead.given_up
+
         given_up : (o g j w : ℕ) → IsPageTo s o g j w p.block → ((g ≡ f) × (j ≡ i) → ⊥) → v.zone f i ≡ Some p.block → IsLive h now v g j w p.block ⊎ IsDead h s now N v o g j w p.block → IsGivenUpNow h s g j w o
         given_up o g j w page apart there (inl live) = absurd (apart (plain.one_page g j f i p.block live.there there))
         given_up o g j w page apart there (inr dead) =
@@ -195,6 +221,70 @@ module _ {A : Type 0} {h : History A} {now N : ℕ} (p : Submitting) where
           }))
           (was.live_or_dead o f i x z t)
 
+module _ {A : Type 0} {program : Reads A} {h : History A} {now r N : ℕ} {revoked : List ℕ} (p : Submitting) where
+  -- a request that is no commit block
+  pub opened_pushed : {v : View} → ((k : ℕ) → p.note ≡ Commit k → ⊥) → ((k : ℕ) → p.transactions k ≡ p.session.transactions k) → OpenedZones program h p.session now r N v revoked → OpenedZones program h (after p) now r N v revoked
+  opened_pushed other same was = record {
+    pages = λ f i there.
+        ⊎_elim inl
+        (λ dead. inr (record {
+          k = dead.k;
+          entry = dead.entry;
+          later = dead.later;
+          within = dead.within;
+          unmapped = dead.unmapped;
+          of_k = dead.of_k;
+          given_up = ⊎_elim (λ c. inl (c.0, note_old p c.0 (Commit dead.k) c.1)) inr dead.given_up;
+        }))
+        (was.pages f i there);
+    freeable = λ b i.
+        ⊎_elim inl
+        (λ y. inr (⊎_elim inl (λ x. inr (record { k = x.k; numbered = x.numbered; closed = x.closed; clear = ap (λ txs. mark_in txs b) (same_transactions p.transactions p.session.transactions 1 x.k (λ j lo hi. same j)) ∙ x.clear; given_up = x.given_up })) y))
+        (was.freeable b i);
+  }
+
+  -- The commit block: what waited for its transaction is given up.
+  pub opened_committed : {v w : View} → p.note ≡ Commit (N + 1) → ((f i : ℕ) → w.zone f i ≡ v.zone f i) → ((b : ℕ) → w.metadata b ≡ v.metadata b) → ((z k : ℕ) → N + 1 < k → v.quarantine z ≡ Some k → w.quarantine z ≡ Some k)
+      → ((k : ℕ) → p.transactions k ≡ p.session.transactions k) → OpenedZones program h p.session now r N v revoked → OpenedZones program h (after p) now r (N + 1) w revoked
+  opened_committed {v = v} {w = w} note zones metadata waits same was = record {
+    pages = λ f i there.
+        ⊎_elim
+        (λ live. inl (record { calm = live.calm; there = zones f i ∙ live.there }))
+        (λ dead. inr (record {
+          k = dead.k;
+          entry = dead.entry;
+          later = dead.later;
+          within = dead.within;
+          unmapped = dead.unmapped;
+          of_k = dead.of_k;
+          given_up =
+              ⊎_elim
+              (λ c. inl (c.0, note_old p c.0 (Commit dead.k) c.1))
+              (λ q.
+              let up = q.0 in
+              ⊎_elim
+              (λ more. inr (more, waits (place_at program h p.session 0 f i) dead.k more q.1))
+              (λ at. let e : N + 1 ≡ dead.k = omega arith in inl (new_place p, note_new p ∙ ap Some (note ∙ ap Commit e)))
+              (cases_lt (N + 1) dead.k))
+              dead.given_up;
+        }))
+        (was.pages f i there);
+    freeable = λ b i.
+        ⊎_elim (λ meta. inl (metadata b ∙ meta))
+        (λ y. inr (⊎_elim inl
+        (λ x. inr (record {
+          k = x.k;
+          numbered = x.numbered;
+          closed = x.closed;
+          clear = ap (λ txs. mark_in txs b) (same_transactions p.transactions p.session.transactions 1 x.k (λ j lo hi. same j)) ∙ x.clear;
+          given_up =
+              ⊎_elim (λ le. inl (omega arith))
+              (λ q. let up = q.0 in ⊎_elim (λ more. inr (more, waits b x.k more q.1)) (λ at. inl (omega arith)) (cases_lt (N + 1) x.k))
+              x.given_up;
+        })) y))
+        (was.freeable b i);
+  }
+
 -- ---- the page that is sent
 
 -- a page of the cache is marked
@@ -217,13 +307,13 @@ module _ {A : Type 0} {h : History A} {now : ℕ} {v : View} (pages : List Cache
   pub mapped_marked : PagesMapped h now v pages → PagesMapped h now v (put_page pages (marked q st))
   mapped_marked was = record {
     cached = λ f i p e. ⊎_elim (λ n. subst (IsCached h now v f i) n.2 (same f i n.0 n.1)) (λ o. was.cached f i p o) (marked-cases pages q st f i p e);
-    all = λ f i z there. let p = was.all f i z there in marked-stays pages q st f i p.0 p.1;
+    all = λ f i z there wrote. let p = was.all f i z there wrote in marked-stays pages q st f i p.0 p.1;
   }
     where
       same : (f i : ℕ) → q.birth ≡ f → q.index ≡ i → IsCached h now v f i (marked q st)
       same f i b x =
           let c = was.cached f i q (ap (λ g. page_at pages g i) (sym b) ∙ ap (page_at pages q.birth) (sym x) ∙ here) in
-          record { birth = c.birth; index = c.index; zone = c.zone; body = c.body; version = c.version }
+          record { birth = c.birth; index = c.index; zone = c.zone; body = c.body; version = c.version; written = c.written }
 
 module _ (pages : List CachedPage) (q : CachedPage) (st : PageState) (here : page_at pages q.birth q.index ≡ Some q) where
   -- the page goes out with its version, to its block; order-preserving where it becomes Firm

@@ -72,9 +72,9 @@ module _ {T V C R : Type 0} (M : Model T V C R) where
   abbrev pub running_transaction : V → Running → Transaction
   running_transaction v r = record { bodies = bodies_now v r.touched; revokes = r.revoked }
 
-  -- `txs` are the closed transactions, and `reserved` is the metadata of the base image
-  abbrev pub session_of : Setup → List (List ℕ) → Format → List ℕ → List Transaction → Host V C R → Session
-  session_of u base format reserved txs s = record {
+  -- `txs` are the closed transactions, and `reserved` and `freeable` are the metadata of the base image
+  abbrev pub session_of : Setup → List (List ℕ) → Format → List ℕ → List ℕ → List Transaction → Host V C R → Session
+  session_of u base format reserved freeable txs s = record {
     base = base;
     requests = s.journal.flush.requests;
     notes = s.journal.flush.notes;
@@ -85,4 +85,5 @@ module _ {T V C R : Type 0} (M : Model T V C R) where
     sequence = u.sequence;
     transactions = transaction_of txs;
     reserved = reserved;
+    freeable = freeable;
   }

@@ -1,5 +1,5 @@
 -- Volumes in use keep what the host is promised.
-use Rattle.std.specs.Prelude.{◌≡◌, ℕ, true, false, length, nat_lt, Some, None, Ok, Err, refl}
+use Rattle.std.specs.Prelude.{◌≡◌, ℕ, ◌+◌, true, false, length, nat_lt, Some, None, Ok, Err, refl}
 use Rattle.std.proofs.Common.{sym, ap, ◌∙◌, arith}
 use Rattle.std.proofs.lemmas.Option.{none-some, same_Some}
 use Rattle.tree_model.specs.declared.call.Call.{Call}
@@ -56,7 +56,7 @@ module _ (s : Opening) (v : VolumeNow) (t : PlainTree) (h : Stands s v t) (c : C
 module _ (s : Opening) where
   -- a call that the volume does not refuse, and that finds the zones that it needs
   applied : (v : VolumeNow) (t : PlainTree) (n r : ℕ) (c : ByteCall) → Stands s v t → refusal v c.call ≡ None → (would_change v c.call ≡ true → nat_lt (length (zones_of v).free) (needed v c.call) ≡ false) →
-      Stands s (done_as v n r c.call).volume (tree_after_call (room_of s.geometry) t n c.call) × Tells (over s) t n r c v (done_as v n r c.call).volume (done_as v n r c.call).touched
+      Stands s (done_as v (s.first + n) r c.call).volume (tree_after_call (room_of s.geometry) t (s.first + n) c.call) × Tells (over s) t n r c v (done_as v (s.first + n) r c.call).volume (done_as v (s.first + n) r c.call).touched
   unfolding done_as
   applied v t n r c h none enough = (stands_after s v t h n r c none enough, tells_host s v t h n r c none enough)
 
@@ -73,11 +73,11 @@ module _ (s : Opening) where
   pub promises : Contract (over s) (Stands s)
   unfolding is_metadata zone_of
   promises = record {
-    trees = tree_laws s.geometry;
+    trees = tree_laws s;
     plain = λ v t h. stands_for s v t h;
     applied = λ v t n r c h none begun enough. applied v t n r c h none enough;
-    refused = λ v t n c why h refused. refused_all s v t h c.call why refused n;
-    begun = λ t n c begun. begun_all t n c.call begun;
+    refused = λ v t n c why h refused. refused_all s v t h c.call why refused (s.first + n);
+    begun = λ t n c begun. begun_all t (s.first + n) c.call begun;
     released = released_stands;
     same_bytes = λ v k. refl;
     same_metadata = λ v k. refl;

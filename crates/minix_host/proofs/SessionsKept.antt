@@ -1,6 +1,6 @@
 -- Whole sessions on a volume keep the order rules, and a power cut leaves the tree after a prefix of the calls.
 use Rattle.std.specs.Prelude.{◌≡◌, ◌<◌, ◌≤◌, ℕ, ◌+◌, Bool, List, [], ◌∷◌, length, slice_get, Some, Ok, refl}
-use Rattle.std.proofs.Common.{sym, ap, subst, ◌∙◌, arith}
+use Rattle.std.proofs.Common.{sym, ap, subst, ◌∙◌, inl, arith}
 use Rattle.log_model.specs.Marks.{Transaction}
 use Rattle.minix_host.specs.ByteCalls.{ByteCall}
 use Rattle.tree_model.specs.declared.call.Reply.{Reply}
@@ -33,13 +33,17 @@ use Rattle.host_machine.specs.runs.laws.Written.{AreWritten}
 use Rattle.host_machine.proofs.RunsLemmas.Answered.{answered_now, answer_stays}
 use Rattle.host_machine.proofs.RunsLemmas.RunHost.{opened_has, step_keeps, step_fits, steps_keep}
 use Rattle.host_machine.proofs.RunsLemmas.Sentences.{sentences}
-use Rattle.minix_host.specs.PlainTrees.{PlainTree}
-use Rattle.minix_host.specs.Runs.{IsOpenedVolume, HasEmptyJournal, HasTreeLike, KeepsSession, opened_host, host_after}
-use Rattle.minix_host.specs.Sessions.{Opening, over, model, Stands}
+use Rattle.blk_base.specs.Members.{In}
+use Rattle.tree_model.specs.Plain.{AreBornBefore}
+use Rattle.tree_model.proofs.PlainTrees.{new_born}
+use Rattle.crash_laws.specs.LegalHistory.{root_alone}
+use Rattle.minix_host.specs.PlainTrees.{PlainTree, root_tree}
+use Rattle.minix_host.specs.Runs.{IsNewOpening, IsOpenedVolume, HasEmptyJournal, HasTreeLike, KeepsSession, opened_host, host_after}
+use Rattle.minix_host.specs.Sessions.{Opening, over, HasRoot, Stands}
 use Rattle.minix_host.proofs.BytesKept.{new_bytes}
 use Rattle.minix_host.proofs.AlikeFound.{found_alike}
 use Rattle.minix_host.proofs.Numbered.{trees_are}
-use Rattle.minix_host.proofs.OpenedVolumes.{is_opened, fits_words}
+use Rattle.minix_host.proofs.OpenedVolumes.{alone_listed, is_opened, fits_words}
 use Rattle.minix_host.proofs.Promises.{promises, blocks_are_whole}
 use Rattle.minix_host.proofs.WalkedZones.{ends, t, k}
 
@@ -78,7 +82,7 @@ module _ (s : Opening) (u : PlainTree) (blocks : List (List ℕ)) (alike : IsAli
 
 -- ---- a session
 
-module _ (s : Opening) (h : Host VolumeNow ByteCall Reply) (kept : IsSoundHost (promises s) h) where
+module _ (s : Opening) (born : AreBornBefore (s.first + 1) s.tree.tree) (h : Host VolumeNow ByteCall Reply) (kept : IsSoundHost (promises s) h) where
   abbrev closed : List Transaction
   closed = kept.rules.0
 
@@ -91,8 +95,8 @@ module _ (s : Opening) (h : Host VolumeNow ByteCall Reply) (kept : IsSoundHost (
         sentences = said;
         trees = λ m recovered order recovers.
             let last = cut_of h.cuts (length h.history) (kept_number (over s) (Stands s) h closed m) in
-            subst (HasTreeLike s recovered) (trees_are (λ (c : ByteCall). c.call) s.geometry h.history last)
-            (tree_like s (tree_after (model s.geometry) h.history last) recovered (said.tree m (disk_of recovered) order recovers));
+            subst (HasTreeLike s recovered) (trees_are (λ (c : ByteCall). c.call) s.geometry s.tree s.first born h.history last)
+            (tree_like s (tree_after (over s).model h.history last) recovered (said.tree m (disk_of recovered) order recovers));
       }
 
 module _ (s : Opening) (v : VolumeNow) (ring : LogRing) (limit : ℕ) (programs : List (List ByteCall)) (written : AreWritten s.format s.writers) (o : IsOpenedVolume s v) (j : HasEmptyJournal s ring limit) where
@@ -114,7 +118,7 @@ module _ (s : Opening) (v : VolumeNow) (ring : LogRing) (limit : ℕ) (programs 
   sound_after events = steps_keep (promises s) written (blocks_are_whole s) first events first_sound first_fits
 
   pub session_runs : (events : List Event) → KeepsSession s (host_after s v ring limit programs events)
-  session_runs events = session_kept s (host_after s v ring limit programs events) (sound_after events)
+  session_runs events = session_kept s o.born (host_after s v ring limit programs events) (sound_after events)
 
   -- an Ok has what it stands for, then and later
   pub answered_in_run : (events more : List Event) (full : Bool) (t : ℕ) (th : Thread ByteCall) (b : Begun) → slice_get (host_after s v ring limit programs events).threads t ≡ Some th → th.begun ≡ Some b →
@@ -133,13 +137,18 @@ module _ (s : Opening) (v : VolumeNow) (ring : LogRing) (limit : ℕ) (programs 
 
 -- ---- new volumes
 
-pub new_opened : (s : Opening) → IsPlainNow (new_now s.geometry) → s.root ≡ s.geometry.first → ((b : ℕ) → b < s.geometry.zones → disk_of s.image b ≡ disk_of (new_volume s.geometry).blocks b) → IsOpenedVolume s (new_now s.geometry)
+pub new_opened : (s : Opening) → IsNewOpening s → IsPlainNow (new_now s.geometry) → s.root ≡ s.geometry.first → ((b : ℕ) → b < s.geometry.zones → disk_of s.image b ≡ disk_of (new_volume s.geometry).blocks b) → IsOpenedVolume s (new_now s.geometry)
 unfolding tree_now
-new_opened s plain root image = record {
-  plain = plain;
-  geometry = refl;
-  tree = refl;
-  root = record { placed = root_placed s.geometry; stands = refl; zone_is = sym root };
-  bytes = new_bytes s.geometry;
-  image = image;
-}
+new_opened s new plain root image =
+    let has_root : HasRoot (new_now s.geometry) s.root = record { placed = root_placed s.geometry; stands = refl; zone_is = sym root } in
+    record {
+      plain = plain;
+      geometry = refl;
+      tree = sym (ap (λ (t : PlainTree). t.tree) new.tree);
+      born = subst (λ (t : PlainTree). AreBornBefore (s.first + 1) t.tree) (sym new.tree) (subst (λ n. AreBornBefore (n + 1) (root_alone s.geometry.width)) (sym new.first) (new_born s.geometry.width));
+      root = has_root;
+      bytes = new_bytes s.geometry;
+      image = image;
+      listed = λ b m. inl (alone_listed s (new_now s.geometry) plain refl has_root refl b m);
+      freeable = λ b i. absurd (subst (In b) new.freeable i);
+    }

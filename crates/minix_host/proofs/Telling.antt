@@ -1,6 +1,6 @@
 -- What a call tells the host.
 use Rattle.std.specs.List.{range_with_len}
-use Rattle.std.specs.Prelude.{◌≡◌, ◌≢◌, ◌<◌, ◌⊎◌, ℕ, true, false, List, map, length, nat_lt, Some, None, refl, not}
+use Rattle.std.specs.Prelude.{◌≡◌, ◌≢◌, ◌+◌, ◌<◌, ◌⊎◌, ℕ, true, false, List, map, length, nat_lt, Some, None, refl, not}
 use Rattle.std.proofs.Common.{sym, ap, subst, ◌∙◌, inl, inr, ⊎_elim, arith, ltb-false}
 use Rattle.std.proofs.lemmas.Bool.{cases_Bool, true≢false}
 use Rattle.std.proofs.lemmas.Option.{none-some, same_Some}
@@ -81,10 +81,14 @@ module _ (v : VolumeNow) (h : IsPlainNow v) (n : ℕ) (c : Call) (none : refusal
 
 -- ---- after the call
 
-module _ (s : Opening) (v : VolumeNow) (t : PlainTree) (h : Stands s v t) (n r : ℕ) (call : ByteCall) (none : refusal v call.call ≡ None)
+module _ (s : Opening) (v : VolumeNow) (t : PlainTree) (h : Stands s v t) (k r : ℕ) (call : ByteCall) (none : refusal v call.call ≡ None)
     (enough : would_change v call.call ≡ true → nat_lt (length (zones_of v).free) (needed v call.call) ≡ false) where
   abbrev c : Call
   c = call.call
+
+  -- the number of entry k
+  abbrev n : ℕ
+  n = s.first + k
 
   abbrev number : ℕ
   number = number_in (tree_of_now v) n
@@ -109,8 +113,8 @@ module _ (s : Opening) (v : VolumeNow) (t : PlainTree) (h : Stands s v t) (n r :
   root_kept : HasRoot w s.root
   root_kept =
       let some = root_some v h.plain s.root h.root in
-      let k = called_keeps s.root some v h.plain.plain.rooted number r root_apart (root_is v h.plain s.root h.root) c in
-      record { placed = k.placed; stands = k.stands; zone_is = k.zone_is }
+      let kept = called_keeps s.root some v h.plain.plain.rooted number r root_apart (root_is v h.plain s.root h.root) c in
+      record { placed = kept.placed; stands = kept.stands; zone_is = kept.zone_is }
     where
       root_apart : number ≢ 0
       root_apart e = (let low = born_before (tree_of_now v) n 0 _ h.plain.plain.rooted.root.1 in omega arith)
@@ -182,7 +186,7 @@ module _ (s : Opening) (v : VolumeNow) (t : PlainTree) (h : Stands s v t) (n r :
       low_in : (b : ℕ) → b < v.geometry.first → In b (range_with_len 0 s.geometry.first)
       low_in b low = in_from 0 s.geometry.first b (omega arith) (let same = ap (λ (g : Geometry). g.first) h.geometry in omega arith)
 
-  pub tells_host : Tells (over s) t n r call v w (done_as v n r c).touched
+  pub tells_host : Tells (over s) t k r call v w (done_as v n r c).touched
   unfolding done_as
   tells_host = record {
     fresh = λ b m. ⊎_elim (λ was. inl (meta_tested v h.plain b was)) (λ i. inr i) (told.fresh_are_touched b (meta_after b m));

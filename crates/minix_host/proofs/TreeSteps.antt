@@ -1,5 +1,5 @@
 -- What the calls of the model do to plain trees.
-use Rattle.std.specs.Prelude.{◌≡◌, ℕ, ◌==◌, Bool, true, false, not, ◌&&◌, if◌then◌else◌, List, [], Option, Some, None, is_some, Ok, Err, refl}
+use Rattle.std.specs.Prelude.{◌≡◌, ℕ, ◌+◌, ◌==◌, Bool, true, false, not, ◌&&◌, if◌then◌else◌, List, [], Option, Some, None, is_some, Ok, Err, refl}
 use Rattle.std.specs.Map.{keys_of}
 use Rattle.std.specs.Ordering.{nat_cmp}
 use Rattle.std.specs.Str.{bytes_eq}
@@ -15,7 +15,7 @@ use Rattle.tree_model.specs.declared.node.File.{File}
 use Rattle.tree_model.specs.declared.node.Node.{Node}
 use Rattle.tree_model.specs.declared.node.Node.TheVariants as nodes
 use Rattle.tree_model.specs.Calls.{Row, outcome, tree_from, tree_after, leaves_tree, reply_of, reply_from}
-use Rattle.tree_model.specs.Histories.{block_in, maps_block, same_file, writes, touches, is_ok, tree_after_entries}
+use Rattle.tree_model.specs.Histories.{block_in, maps_block, same_file, writes, touches, is_ok}
 use Rattle.tree_model.specs.Maps.{at_number}
 use Rattle.tree_model.specs.Plain.{IsPlain}
 use Rattle.tree_model.specs.laws.MapsLaws.{number_here, number_same}
@@ -24,16 +24,13 @@ use Rattle.tree_model.proofs.Causes.{refused_for, cause_not_ok}
 use Rattle.tree_model.proofs.Histories.{only_writes_map, written_is_mapped}
 use Rattle.tree_model.proofs.Outcomes.{quiet_stays}
 use Rattle.volume_model.proofs.ImageSlots.{key_found, found_key}
-use Rattle.crash_laws.specs.LegalHistory.{root_alone}
-use Rattle.crash_laws.proofs.TreeHistories.{real_trees}
 use Rattle.host_machine.specs.laws.Contract.{TreeLaws}
 use Rattle.flush_actor.specs.Kinds.{is_begun}
-use Rattle.minix_layout.specs.declared.division.Geometry.{Geometry}
 use Rattle.volume_steps.specs.Now.{room_of}
 use Rattle.minix_host.specs.Calls.{kind_of}
 use Rattle.minix_host.specs.Numbers.{next_birth, number_in}
 use Rattle.minix_host.specs.PlainTrees.{PlainTree, left_by, tree_after_call, call_writes, call_alters}
-use Rattle.minix_host.specs.Sessions.{model}
+use Rattle.minix_host.specs.Sessions.{Opening, over}
 use Rattle.minix_host.specs.laws.Numbers.{outcome_plain}
 use Rattle.minix_host.proofs.SameRows.{writes_same}
 
@@ -154,16 +151,11 @@ stays_unaltered room t n c same birth =
 
 -- ---- the laws of trees
 
-root_maps : (width birth index : ℕ) → maps_block (root_alone width) birth index ≡ false
-unfolding tree_after_entries
-root_maps width birth index = (real_trees (record { inodes = 0; capacity = 0 }) width [] (λ k. 0) (λ n found f i. 0) (record { first = refl; rise = λ k. omega arith })).empty birth index
-
-pub tree_laws : (g : Geometry) → TreeLaws (model g)
-tree_laws g = record {
-  empty = root_maps g.width;
-  mapped = λ t n c f i none there. mapped_by (room_of g) t n c.call f i none there;
-  written = λ t n c f i wrote. written_by (room_of g) t n c.call f i wrote;
+pub tree_laws : (s : Opening) → TreeLaws (over s).model
+tree_laws s = record {
+  mapped = λ t n c f i none there. mapped_by (room_of s.geometry) t (s.first + n) c.call f i none there;
+  written = λ t n c f i wrote. written_by (room_of s.geometry) t (s.first + n) c.call f i wrote;
   same = λ t n c f i unaltered.
-      let same = not_false (same_file (at_number t.tree f) (at_number (tree_after_call (room_of g) t n c.call).tree f)) unaltered in
-      sym (file_maps (at_number t.tree f) (at_number (tree_after_call (room_of g) t n c.call).tree f) i same);
+      let same = not_false (same_file (at_number t.tree f) (at_number (tree_after_call (room_of s.geometry) t (s.first + n) c.call).tree f)) unaltered in
+      sym (file_maps (at_number t.tree f) (at_number (tree_after_call (room_of s.geometry) t (s.first + n) c.call).tree f) i same);
 }

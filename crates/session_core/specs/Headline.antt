@@ -10,7 +10,7 @@ use Rattle.volume_ops.specs.Volume.{disk_of}
 use Rattle.volume_steps.specs.Now.{room_of}
 use Rattle.mount_make.specs.Images.{recovered_image}
 pub use Rattle.crash_laws.specs.Found.{IsFound}
-use Rattle.crash_laws.specs.LegalHistory.{IsLegal}
+use Rattle.crash_laws.specs.LegalHistory.{root_alone, IsLegal}
 pub use Rattle.crash_laws.specs.History.{History, last_write, IsLastChange}
 use Rattle.crash_laws.specs.PromiseRules.{Covers, CoversEntry, IsLaterKept}
 use Rattle.crash_laws.specs.Rules.{FitsNotes}
@@ -110,7 +110,7 @@ pub record HeadlineOn (s : SessionScript) (end : EndState) (r : SessionReport) :
   pub device : IsDeviceOf s end.dev
   -- The history goes by the programs and by the tree of calls.
   pub follows : FollowsTree (opening_of s) s.programs end.host
-  pub legal : IsLegal (room_of (geometry_of s)) s.width (program_of s.programs) (events_in end.host.history)
+  pub legal : IsLegal (room_of (geometry_of s)) (root_alone s.width) 0 (program_of s.programs) (events_in end.host.history)
   -- The transactions whose commit block was kept are the first ones, as many as were found; and the metadata recovered is
   -- that after them.
   pub transactions : IsFound (submitted_in s end) (medium_of r) r.found

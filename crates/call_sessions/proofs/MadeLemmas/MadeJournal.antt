@@ -1,6 +1,8 @@
 -- A session can be opened on an image that was made: its first blocks are the volume's, and its journal is empty.
 use Rattle.std.specs.Prelude.{◌≡◌, ◌≢◌, ◌<◌, ◌≤◌, ◌+◌, ◌-◌, ℕ, Bool, zero, suc, List, [], ◌∷◌, ◌++◌, length, replicate, slice_index_or, refl}
-use Rattle.std.proofs.Common.{sym, ap, ◌∙◌, arith}
+use Rattle.std.proofs.Common.{sym, ap, ◌∙◌, inl, arith}
+use Rattle.tree_model.proofs.PlainTrees.{new_born}
+use Rattle.minix_host.proofs.OpenedVolumes.{alone_listed}
 use Rattle.blk_base.specs.Block.{filled}
 use Rattle.byte_fields.specs.Fields.{number_at, number_of}
 use Rattle.minix_layout.specs.declared.division.Geometry.{Geometry}
@@ -70,15 +72,18 @@ module _ (g : Geometry) (sound : IsSound g) (journal : ℕ) (wide : Bool) (low :
     plain = made_in_use g sound new;
     geometry = refl;
     tree = refl;
+    born = new_born g.width;
     root = record { placed = root_placed g; stands = refl; zone_is = refl };
     bytes = made_bytes g sound;
     image = volume_block;
+    listed = λ b m. inl (alone_listed (made_opening g journal wide quota) (made_now g) (made_in_use g sound new) refl (record { placed = root_placed g; stands = refl; zone_is = refl }) refl b m);
+    freeable = λ b i. absurd i;
   }
 
   pub made_empty : (limit : ℕ) → limit + 2 < 4294967296 → HasEmptyJournal (made_opening g journal wide quota) (made_ring journal) limit
   made_empty limit few = record {
     start = ap (λ b. (tail_of b).start) first_block ∙ (super_has (new_journal journal wide)).1.1.1.1.1.1.1.0 (omega arith);
-    plain = λ p sequence place e. plain_commits sequence (sym (ap (header_of wide) (log_block p place.0) ∙ no_header wide (filled 0) blank_magic) ∙ e);
+    plain = λ p sequence place since e. plain_commits sequence (sym (ap (header_of wide) (log_block p place.0) ∙ no_header wide (filled 0) blank_magic) ∙ e);
     log = record { first = omega arith; place = (omega arith, omega arith); head = refl; used = refl; started = refl; homes = refl };
     places = omega arith;
     sequences = omega arith;

@@ -10,7 +10,7 @@ use Rattle.tree_model.specs.declared.call.Reply.TheVariants as replies
 use Rattle.tree_model.specs.declared.call.Room.{Room}
 use Rattle.tree_model.specs.Calls.{Tree, reply_of}
 use Rattle.tree_model.specs.Histories.{tree_after_entries}
-use Rattle.crash_laws.specs.LegalHistory.{Event, Begin, End, has_begun, done_from, done_by, root_alone, is_waiting, is_turned_away, tree_up_to, IsReply, IsBegun, IsLegal}
+use Rattle.crash_laws.specs.LegalHistory.{Event, Begin, End, has_begun, done_from, done_by, is_waiting, is_turned_away, tree_up_to, IsReply, IsBegun, IsLegal}
 use Rattle.crash_laws.specs.LegalHistory as legal
 use Rattle.crash_laws.proofs.LongerHistories.{done_from-append, length-done_from, same_tree}
 use Rattle.flush_actor.specs.Kinds.{is_begun, is_reading}
@@ -76,11 +76,11 @@ begin_event h i t c there = (let x = map_some-slice_get event_of h i (Begin t c)
 -- ---- trees and calls
 
 -- the tree before a place is that of the events before
-longer_tree : (room : Room) (width : ℕ) (events more : List Event) (i : ℕ) → i ≤ length events → tree_up_to room width (events ++ more) i ≡ tree_up_to room width events i
-longer_tree room width events more i le =
+longer_tree : (room : Room) (opened : Tree) (base : ℕ) (events more : List Event) (i : ℕ) → i ≤ length events → tree_up_to room opened base (events ++ more) i ≡ tree_up_to room opened base events i
+longer_tree room opened base events more i le =
     let long = length-done_from [] events in
-    ap (λ es. tree_after_entries room (root_alone width) 0 es (i - 0)) (done_from-append [] events more)
-    ∙ same_tree room (root_alone width) (done_by events) (done_from events more) (i - 0) (omega (arith, long, le))
+    ap (λ es. tree_after_entries room opened base es i) (done_from-append [] events more)
+    ∙ same_tree room opened base (done_by events) (done_from events more) i (omega (arith, long, le))
 
 none_begun : (b : Option Begun) → (is_some b ≡ true → ⊥) → b ≡ None
 none_begun None h = refl
@@ -89,12 +89,12 @@ none_begun (Some b) h = absurd (h refl)
 -- ---- answers as the tree gives them
 
 -- a host's volume answers the call as the tree after all its entries does
-pub record AsTree {A T V : Type 0} (o : Over A T V Call Reply) (room : Room) (width : ℕ) (s : Host V Call Reply) (c : Call) : Type 0 where
-  pub refused : (why : Reply) → o.model.reply s.volume c ≡ Some why → why ≡ reply_of room (tree_up_to room width (events_in s.history) (length s.history)) (length s.history + 1) c
+pub record AsTree {A T V : Type 0} (o : Over A T V Call Reply) (room : Room) (opened : Tree) (base : ℕ) (s : Host V Call Reply) (c : Call) : Type 0 where
+  pub refused : (why : Reply) → o.model.reply s.volume c ≡ Some why → why ≡ reply_of room (tree_up_to room opened base (events_in s.history) (length s.history)) (base + (length s.history + 1)) c
   pub refused_not_ok : (why : Reply) → o.model.reply s.volume c ≡ Some why → why ≢ replies.Ok
   pub acted : o.model.reply s.volume c ≡ None → is_begun (o.model.kind c) ≡ false
-      → (o.model.apply s.volume (length s.history + 1) s.journal.running.number c).reply ≡ reply_of room (tree_up_to room width (events_in s.history) (length s.history)) (length s.history + 1) c
-  pub begun : o.model.reply s.volume c ≡ None → is_begun (o.model.kind c) ≡ true → reply_of room (tree_up_to room width (events_in s.history) (length s.history)) (length s.history + 1) c ≡ replies.Ok
+      → (o.model.apply s.volume (length s.history + 1) s.journal.running.number c).reply ≡ reply_of room (tree_up_to room opened base (events_in s.history) (length s.history)) (base + (length s.history + 1)) c
+  pub begun : o.model.reply s.volume c ≡ None → is_begun (o.model.kind c) ≡ true → reply_of room (tree_up_to room opened base (events_in s.history) (length s.history)) (base + (length s.history + 1)) c ≡ replies.Ok
 
 -- what a model has of the tree model's calls
 pub record IsOfCalls {A T V : Type 0} (o : Over A T V Call Reply) : Type 0 where
@@ -154,22 +154,22 @@ module _ {A T V : Type 0} (o : Over A T V Call Reply) (model : IsOfCalls o) (fir
 
   -- ---- ends at once, and ends of begun calls
 
-  module _ (room : Room) (width : ℕ) (as_tree : (es : List runs.Event) (t : ℕ) (th : Thread Call) (c : Call) (rest : List Call) → slice_get (steps o first es).threads t ≡ Some th → th.calls ≡ c ∷ rest → AsTree o room width (steps o first es) c) where
+  module _ (room : Room) (opened : Tree) (base : ℕ) (as_tree : (es : List runs.Event) (t : ℕ) (th : Thread Call) (c : Call) (rest : List Call) → slice_get (steps o first es).threads t ≡ Some th → th.calls ≡ c ∷ rest → AsTree o room opened base (steps o first es) c) where
     -- the tree before an entry is that after the history then
-    tree_then : (es : List runs.Event) (i t : ℕ) (s : StepAt o first es i t) → tree_up_to room width (events_in (steps o first s.before).history) (length (steps o first s.before).history) ≡ tree_up_to room width (events_in (steps o first es).history) i
+    tree_then : (es : List runs.Event) (i t : ℕ) (s : StepAt o first es i t) → tree_up_to room opened base (events_in (steps o first s.before).history) (length (steps o first s.before).history) ≡ tree_up_to room opened base (events_in (steps o first es).history) i
     tree_then es i t s =
         let old = (steps o first s.before).history in
         let g = (grown_from o first empty none begun es i t s).history in
         let p = s.place in
         sym
-        (ap (λ h. tree_up_to room width (events_in h) i) g.are
-        ∙ ap (λ l. tree_up_to room width l i) (map-append event_of old g.more)
-        ∙ longer_tree room width (events_in old) (events_in g.more) i (let l = length-map old event_of in omega (arith, l, p))
-        ∙ ap (tree_up_to room width (events_in old)) (sym p))
+        (ap (λ h. tree_up_to room opened base (events_in h) i) g.are
+        ∙ ap (λ l. tree_up_to room opened base l i) (map-append event_of old g.more)
+        ∙ longer_tree room opened base (events_in old) (events_in g.more) i (let l = length-map old event_of in omega (arith, l, p))
+        ∙ ap (tree_up_to room opened base (events_in old)) (sym p))
 
     -- what a call that ends at once owes, before this tree
-    owes : (s : Host V Call Reply) (tree : Tree) (n t : ℕ) (c : Call) (e : Ending Reply) → ((r : Reply) → e ≡ Answered r → is_turned_away r ≡ false) → AsTree o room width s c →
-        tree_up_to room width (events_in s.history) (length s.history) ≡ tree → length s.history + 1 ≡ n → EndReason o.model o.setup s c None e → IsReply room tree n c (reply_in e)
+    owes : (s : Host V Call Reply) (tree : Tree) (n t : ℕ) (c : Call) (e : Ending Reply) → ((r : Reply) → e ≡ Answered r → is_turned_away r ≡ false) → AsTree o room opened base s c →
+        tree_up_to room opened base (events_in s.history) (length s.history) ≡ tree → base + (length s.history + 1) ≡ n → EndReason o.model o.setup s c None e → IsReply room tree n c (reply_in e)
     owes s tree n t c e fine like same number (Stopped stop) = by (stop_cause o.model o.setup s.journal.flush.taken (o.model.kind c) e stop)
       where
         by : StopCause s.journal.flush.taken (o.model.kind c) e → IsReply room tree n c (reply_in e)
@@ -178,14 +178,14 @@ module _ {A T V : Type 0} (o : Over A T V Call Reply) (model : IsOfCalls o) (fir
             subst (λ x. IsReply room tree n c (reply_in x)) (sym is) (record { given = inr refl; waits = λ w ok. (let never : ◌≡◌ {A = Reply} (replies.ReadOnly id) replies.Ok = ok in cc never); reads = λ r away. absurd (true≢false (sym r ∙ model.reads c ∙ writes)) })
     owes s tree n t c e fine like same number (Refused why going idle reply is) =
         subst (λ x. IsReply room tree n c (reply_in x)) (sym is) (record {
-          given = inl (like.refused why reply ∙ ap (λ x. reply_of room x (length s.history + 1) c) same ∙ ap (λ k. reply_of room tree k c) number);
+          given = inl (like.refused why reply ∙ ap (λ x. reply_of room x (base + (length s.history + 1)) c) same ∙ ap (λ k. reply_of room tree k c) number);
           waits = λ w. like.refused_not_ok why reply;
           reads = λ r away. absurd (true≢false (sym away ∙ fine why is));
         })
     owes s tree n t c e fine like same number (Acted going idle reply kind is) =
         let r = (o.model.apply s.volume (length s.history + 1) s.journal.running.number c).reply in
         subst (λ x. IsReply room tree n c (reply_in x)) (sym is) (record {
-          given = inl (like.acted reply kind ∙ ap (λ x. reply_of room x (length s.history + 1) c) same ∙ ap (λ k. reply_of room tree k c) number);
+          given = inl (like.acted reply kind ∙ ap (λ x. reply_of room x (base + (length s.history + 1)) c) same ∙ ap (λ k. reply_of room tree k c) number);
           waits = λ w. absurd (true≢false (sym w ∙ model.waits c ∙ kind));
           reads = λ q away. absurd (true≢false (sym away ∙ fine r is));
         })
@@ -198,24 +198,24 @@ module _ {A T V : Type 0} (o : Over A T V Call Reply) (model : IsOfCalls o) (fir
     owes s tree n t c e fine like same number (Acknowledged b going was is) = absurd (none-some b was)
 
     at_once : (es : List runs.Event) (i t : ℕ) (c : Call) (r : Reply) → slice_get (events_in (steps o first es).history) i ≡ Some (End t c r) → (IsBegun (events_in (steps o first es).history) i t → ⊥) →
-        IsReply room (tree_up_to room width (events_in (steps o first es).history) i) (i + 1) c r
+        IsReply room (tree_up_to room opened base (events_in (steps o first es).history) i) (base + (i + 1)) c r
     at_once es i t c r there not_begun =
         let b = end_event (steps o first es).history i t c r there in
         let x = ended_at o first empty es i t c b.0 b.1 in
         let s = steps o first x.step.before in
         let idle : x.own.begun ≡ None = none_begun x.own.begun (λ some. not_begun (begun_at es i t x.step x.own x.at ∙ some)) in
-        subst (IsReply room (tree_up_to room width (events_in (steps o first es).history) i) (i + 1) c) b.2
-        (owes s (tree_up_to room width (events_in (steps o first es).history) i) (i + 1) t c b.0 (λ y is. own es i t c y (subst (EndsAt (steps o first es).history i t c) is b.1)) (as_tree x.step.before t x.own c x.rest x.at x.calls)
+        subst (IsReply room (tree_up_to room opened base (events_in (steps o first es).history) i) (base + (i + 1)) c) b.2
+        (owes s (tree_up_to room opened base (events_in (steps o first es).history) i) (base + (i + 1)) t c b.0 (λ y is. own es i t c y (subst (EndsAt (steps o first es).history i t c) is b.1)) (as_tree x.step.before t x.own c x.rest x.at x.calls)
         (tree_then es i t x.step) (let p = x.step.place in omega (arith, p)) (subst (λ y. EndReason o.model o.setup s c y b.0) idle x.reason))
 
     begins_free : (es : List runs.Event) (i t : ℕ) (c : Call) → slice_get (events_in (steps o first es).history) i ≡ Some (Begin t c) →
-        (is_waiting c ≡ true) × (reply_of room (tree_up_to room width (events_in (steps o first es).history) i) (i + 1) c ≡ replies.Ok)
+        (is_waiting c ≡ true) × (reply_of room (tree_up_to room opened base (events_in (steps o first es).history) i) (base + (i + 1)) c ≡ replies.Ok)
     begins_free es i t c there =
         let x = began_at o first empty es i t c (begin_event (steps o first es).history i t c there) in
         let like = as_tree x.step.before t x.own c x.rest x.at x.calls in (
           model.waits c ∙ x.kind,
-          ap (λ k. reply_of room (tree_up_to room width (events_in (steps o first es).history) i) k c) (let p = x.step.place in let n : i + 1 ≡ length (steps o first x.step.before).history + 1 = omega (arith, p) in n)
-              ∙ ap (λ tree. reply_of room tree (length (steps o first x.step.before).history + 1) c) (sym (tree_then es i t x.step)) ∙ like.begun x.reply x.kind,
+          ap (λ k. reply_of room (tree_up_to room opened base (events_in (steps o first es).history) i) k c) (let p = x.step.place in let n : base + (i + 1) ≡ base + (length (steps o first x.step.before).history + 1) = omega (arith, p) in n)
+              ∙ ap (λ tree. reply_of room tree (base + (length (steps o first x.step.before).history + 1)) c) (sym (tree_then es i t x.step)) ∙ like.begun x.reply x.kind,
         )
 
     begun_ends : (es : List runs.Event) (i t : ℕ) (c : Call) (r : Reply) → slice_get (events_in (steps o first es).history) i ≡ Some (End t c r) → IsBegun (events_in (steps o first es).history) i t → (r ≡ replies.Ok) ⊎ (is_turned_away r ≡ true)
@@ -236,7 +236,7 @@ module _ {A T V : Type 0} (o : Over A T V Call Reply) (model : IsOfCalls o) (fir
         by s y e some (Full going limit hinders is) = inr (ap (λ x. is_turned_away (reply_in x)) is)
         by s y e some (Acknowledged d going was is) = inl (ap reply_in is ∙ model.ok)
 
-    pub run_is_legal : (es : List runs.Event) → IsLegal room width (program_of programs) (events_in (steps o first es).history)
+    pub run_is_legal : (es : List runs.Event) → IsLegal room opened base (program_of programs) (events_in (steps o first es).history)
     run_is_legal es = record {
       programs_followed = programs_followed o first programs empty threads es;
       at_once = at_once es;

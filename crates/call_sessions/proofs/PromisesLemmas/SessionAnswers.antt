@@ -8,7 +8,6 @@ use Rattle.tree_model.specs.declared.call.Reply.{Reply}
 use Rattle.tree_model.specs.declared.call.Reply.TheVariants as replies
 use Rattle.tree_model.specs.Histories.{tree_after_entries}
 use Rattle.volume_steps.specs.Now.{VolumeNow, tree_of_now, room_of}
-use Rattle.crash_laws.specs.LegalHistory.{root_alone}
 use Rattle.crash_laws.proofs.LongerHistories.{same_tree}
 use Rattle.journal_ring.specs.LogRing.{LogRing}
 use Rattle.flush_actor.specs.Kinds.{is_data, is_durable}
@@ -38,9 +37,9 @@ use Rattle.call_sessions.proofs.PromisesLemmas.VolumeReplies.{refusal_not_ok}
 -- the tree before a place is that of a history which goes on
 pub longer : (s : Opening) (old new : Host VolumeNow Call Reply) (n : ℕ) → Extends old.history new.history → n ≤ length old.history → tree_at s new n ≡ tree_at s old n
 longer s old new n e le =
-    ap (λ h. tree_after_entries (room_of s.geometry) (root_alone s.geometry.width) 0 (map acting_call h) n) e.are
-    ∙ ap (λ es. tree_after_entries (room_of s.geometry) (root_alone s.geometry.width) 0 es n) (map-append acting_call old.history e.more)
-    ∙ same_tree (room_of s.geometry) (root_alone s.geometry.width) (map acting_call old.history) (map acting_call e.more) n (let l = length-map old.history acting_call in omega (arith, l, le))
+    ap (λ h. tree_after_entries (room_of s.geometry) s.tree.tree s.first (map acting_call h) n) e.are
+    ∙ ap (λ es. tree_after_entries (room_of s.geometry) s.tree.tree s.first es n) (map-append acting_call old.history e.more)
+    ∙ same_tree (room_of s.geometry) s.tree.tree s.first (map acting_call old.history) (map acting_call e.more) n (let l = length-map old.history acting_call in omega (arith, l, le))
 
 module _ (s : Opening) (v : VolumeNow) (ring : LogRing) (limit : ℕ) (programs : List (List Call)) (written : AreWritten s.format s.writers) (o : IsOpenedVolume s v) (j : HasEmptyJournal s ring limit) (bytes : WriteBytes programs) (events : List runs.Event) where
   abbrev first : Host VolumeNow Call Reply

@@ -11,7 +11,7 @@ use Rattle.tree_model.specs.Calls.{Tree, reply_of, tree_after, leaves_tree}
 use Rattle.tree_model.specs.Histories.{Entry as TreeEntry, tree_after_entry, tree_after_entries}
 use Rattle.tree_model.proofs.Outcomes.{quiet_stays}
 use Rattle.volume_steps.specs.Now.{VolumeNow, room_of}
-use Rattle.crash_laws.specs.LegalHistory.{has_begun, is_turned_away, done_at, root_alone, tree_up_to, IsLegal}
+use Rattle.crash_laws.specs.LegalHistory.{has_begun, is_turned_away, done_at, tree_up_to, IsLegal}
 use Rattle.crash_laws.proofs.EntryTrees.{tree_at_event}
 use Rattle.journal_ring.specs.LogRing.{LogRing}
 use Rattle.host_machine.specs.State.{What, Ending, Answered, Down, ReadOnly, SessionFull, Begins, Ends, Begun, Thread, Entry, Host}
@@ -71,7 +71,7 @@ module _ (s : Opening) where
     own_by h c b r (Stopped stop) = absurd (stop_cause_not_answer c r (stop_cause (call_over s).model (call_over s).setup h.journal.flush.taken (kind_of c) (Answered r) stop))
     own_by h c b r (Refused why going idle reply is) = ap is_turned_away (sym (same_answer r why is)) ∙ refusal_own h.volume c why reply
     own_by h c b r (Acted going idle reply kind is) =
-        ap is_turned_away (sym (same_answer r ((call_over s).model.apply h.volume (length h.history + 1) h.journal.running.number c).reply is)) ∙ done_own h.volume (length h.history + 1) h.journal.running.number c
+        ap is_turned_away (sym (same_answer r ((call_over s).model.apply h.volume (length h.history + 1) h.journal.running.number c).reply is)) ∙ done_own h.volume (s.first + (length h.history + 1)) h.journal.running.number c
     own_by h c b r (Full going full hinders is) = absurd (let never : ◌≡◌ {A = Ending Reply} (Answered r) SessionFull = is in cc never)
     own_by h c b r (Acknowledged x going was is) = ap is_turned_away (sym (same_answer r replies.Ok is))
 
@@ -85,8 +85,11 @@ module _ (s : Opening) where
     abbrev room : Room
     room = room_of s.geometry
 
-    abbrev width : ℕ
-    width = s.geometry.width
+    abbrev opened : Tree
+    opened = s.tree.tree
+
+    abbrev base : ℕ
+    base = s.first
 
     -- what an entry does to a tree is what its event does
     event_acts : (es : List runs.Event) (tree : Tree) (n i : ℕ) (x : Entry Call Reply) → slice_get (at es).history i ≡ Some x →
@@ -123,39 +126,39 @@ module _ (s : Opening) where
         by (Ends SessionFull) e = away (has_begun x.thread false (take i (events_in (at es).history)))
         by (Ends (Answered r)) e = answered x.thread x.call r e
 
-    next_tree : (entries : List TreeEntry) (i : ℕ) → tree_after_entries room (root_alone s.geometry.width) 0 entries (suc i) ≡ tree_after_entry room (tree_after_entries room (root_alone s.geometry.width) 0 entries i) (0 + suc i) (slice_get entries i)
+    next_tree : (entries : List TreeEntry) (i : ℕ) → tree_after_entries room s.tree.tree s.first entries (suc i) ≡ tree_after_entry room (tree_after_entries room s.tree.tree s.first entries i) (s.first + suc i) (slice_get entries i)
     unfolding tree_after_entries
     next_tree entries i = refl
 
-    no_tree : (entries more : List TreeEntry) → tree_after_entries room (root_alone s.geometry.width) 0 entries 0 ≡ tree_after_entries room (root_alone s.geometry.width) 0 more 0
+    no_tree : (entries more : List TreeEntry) → tree_after_entries room s.tree.tree s.first entries 0 ≡ tree_after_entries room s.tree.tree s.first more 0
     unfolding tree_after_entries
     no_tree entries more = refl
 
     -- so the trees are the same
-    pub trees_of_events : (es : List runs.Event) (n : ℕ) → n ≤ length (at es).history → tree_up_to room width (events_in (at es).history) n ≡ tree_at s (at es) n
+    pub trees_of_events : (es : List runs.Event) (n : ℕ) → n ≤ length (at es).history → tree_up_to room opened base (events_in (at es).history) n ≡ tree_at s (at es) n
     trees_of_events es zero le = no_tree _ _
     trees_of_events es (suc i) le =
         let h = (at es).history in
         let x = slice_get-in_range h i (omega (arith, le)) in
-        let number : i + 1 ≡ 0 + suc i = omega arith in
+        let number : s.first + (i + 1) ≡ s.first + suc i = omega arith in
         let next : suc i ≡ i + 1 = omega arith in
-        ap (tree_up_to room width (events_in h)) next
-        ∙ tree_at_event room width (events_in h) i (event_of x.0) (slice_get-map_some event_of h i x.0 x.1)
-        ∙ event_acts es (tree_up_to room width (events_in h) i) (i + 1) i x.0 x.1
-        ∙ ap (λ tree. tree_after_entry room tree (i + 1) (Some (acting_call x.0))) (trees_of_events es i (omega (arith, le)))
+        ap (tree_up_to room opened base (events_in h)) next
+        ∙ tree_at_event room opened base (events_in h) i (event_of x.0) (slice_get-map_some event_of h i x.0 x.1)
+        ∙ event_acts es (tree_up_to room opened base (events_in h) i) (s.first + (i + 1)) i x.0 x.1
+        ∙ ap (λ tree. tree_after_entry room tree (s.first + (i + 1)) (Some (acting_call x.0))) (trees_of_events es i (omega (arith, le)))
         ∙ ap (λ k. tree_after_entry room (tree_at s (at es) i) k (Some (acting_call x.0))) number
-        ∙ ap (tree_after_entry room (tree_at s (at es) i) (0 + suc i)) (sym (slice_get-map_some acting_call h i x.0 x.1))
+        ∙ ap (tree_after_entry room (tree_at s (at es) i) (s.first + suc i)) (sym (slice_get-map_some acting_call h i x.0 x.1))
         ∙ sym (next_tree (map acting_call h) i)
 
     -- ---- legal
 
     module _ (written : AreWritten s.format s.writers) (o : IsOpenedVolume s v) (j : HasEmptyJournal s ring limit) (bytes : WriteBytes programs) where
-      tree_now : (es : List runs.Event) → tree_at s (at es) (length (at es).history) ≡ tree_up_to room width (events_in (at es).history) (length (at es).history)
+      tree_now : (es : List runs.Event) → tree_at s (at es) (length (at es).history) ≡ tree_up_to room opened base (events_in (at es).history) (length (at es).history)
       tree_now es = sym (trees_of_events es (length (at es).history) (omega arith))
 
-      as_tree : (es : List runs.Event) (t : ℕ) (th : Thread Call) (c : Call) (rest : List Call) → slice_get (at es).threads t ≡ Some th → th.calls ≡ c ∷ rest → AsTree (call_over s) room width (at es) c
+      as_tree : (es : List runs.Event) (t : ℕ) (th : Thread Call) (c : Call) (rest : List Call) → slice_get (at es).threads t ≡ Some th → th.calls ≡ c ∷ rest → AsTree (call_over s) room opened base (at es) c
       as_tree es t th c rest there calls =
-          let same = ap (λ tree. reply_of room tree (length (at es).history + 1) c) (tree_now es) in
+          let same = ap (λ tree. reply_of room tree (s.first + (length (at es).history + 1)) c) (tree_now es) in
           record {
             refused = λ why e. refusal_replies s v ring limit programs written o j bytes es c why e ∙ same;
             refused_not_ok = λ why e. refusal_not_ok (at es).volume c why (plain_now s v ring limit programs written o j bytes es) e;
@@ -163,5 +166,5 @@ module _ (s : Opening) where
             begun = λ e kind. sym same ∙ begun_replies s v ring limit programs written o j bytes es c e kind;
           }
 
-      pub legal_in_run : (es : List runs.Event) → IsLegal room width (program_of programs) (events_in (at es).history)
-      legal_in_run es = run_is_legal (call_over s) of_calls first programs refl refl refl begun_first answers_own room width as_tree es
+      pub legal_in_run : (es : List runs.Event) → IsLegal room opened base (program_of programs) (events_in (at es).history)
+      legal_in_run es = run_is_legal (call_over s) of_calls first programs refl refl refl begun_first answers_own room opened base as_tree es

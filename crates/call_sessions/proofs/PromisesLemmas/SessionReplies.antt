@@ -43,7 +43,7 @@ module _ (s : Opening) (v : VolumeNow) (ring : LogRing) (limit : ℕ) (programs 
   -- where the host answers behind these steps
   module _ (es : List runs.Event) (c : Call) where
     abbrev Answer : Reply
-    Answer = reply_of room (tree_at s (at es) (length (at es).history)) (length (at es).history + 1) c
+    Answer = reply_of room (tree_at s (at es) (length (at es).history)) (s.first + (length (at es).history + 1)) c
 
     abbrev refuses : Reply → Type 0
     refuses why = (call_over s).model.reply (at es).volume c ≡ Some why
@@ -58,20 +58,20 @@ module _ (s : Opening) (v : VolumeNow) (ring : LogRing) (limit : ℕ) (programs 
   module _ (events : List runs.Event) where
     -- the tree before a place, and its number, are those at its step
     same_place : (i t : ℕ) (x : StepAt (call_over s) first events i t) (c : Call) →
-        reply_of room (tree_at s (at x.before) (length (at x.before).history)) (length (at x.before).history + 1) c ≡ reply_of room (tree_at s (at events) i) (i + 1) c
+        reply_of room (tree_at s (at x.before) (length (at x.before).history)) (s.first + (length (at x.before).history + 1)) c ≡ reply_of room (tree_at s (at events) i) (s.first + (i + 1)) c
     same_place i t x c =
         let grown = (grown_from (call_over s) first refl refl (begun_first s v ring limit programs) events i t x).history in
-        ap (λ tree. reply_of room tree (length (at x.before).history + 1) c) (sym (longer s (at x.before) (at events) (length (at x.before).history) grown (omega arith)))
-        ∙ ap (λ n. reply_of room (tree_at s (at events) n) (n + 1) c) x.place
+        ap (λ tree. reply_of room tree (s.first + (length (at x.before).history + 1)) c) (sym (longer s (at x.before) (at events) (length (at x.before).history) grown (omega arith)))
+        ∙ ap (λ n. reply_of room (tree_at s (at events) n) (s.first + (n + 1)) c) x.place
 
-    answered_as : (i t : ℕ) (c : Call) (r : Reply) → EndsAt (at events).history i t c (Answered r) → (is_begun (kind_of c) ≡ true → r ≢ replies.Ok) → r ≡ reply_of room (tree_at s (at events) i) (i + 1) c
+    answered_as : (i t : ℕ) (c : Call) (r : Reply) → EndsAt (at events).history i t c (Answered r) → (is_begun (kind_of c) ≡ true → r ≢ replies.Ok) → r ≡ reply_of room (tree_at s (at events) i) (s.first + (i + 1)) c
     answered_as i t c r there not_ok =
         let x = ended_at (call_over s) first refl events i t c (Answered r) there in
         let begun = stay_begun (call_over s) first (begun_first s v ring limit programs) x.step.before in
         answer_by x.step.before c x.own.begun r (λ b was. begun x.own c x.rest b (slice_get-In (at x.step.before).threads t x.own x.at) x.calls was) not_ok x.reason
         ∙ same_place i t x.step c
 
-    begins_as : (i t : ℕ) (c : Call) → BeginsAt (at events).history i t c → (is_begun (kind_of c) ≡ true) × (reply_of room (tree_at s (at events) i) (i + 1) c ≡ replies.Ok)
+    begins_as : (i t : ℕ) (c : Call) → BeginsAt (at events).history i t c → (is_begun (kind_of c) ≡ true) × (reply_of room (tree_at s (at events) i) (s.first + (i + 1)) c ≡ replies.Ok)
     begins_as i t c there =
         let x = began_at (call_over s) first refl events i t c there in
         let es = x.step.before in (

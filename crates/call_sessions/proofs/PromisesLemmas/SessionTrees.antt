@@ -1,5 +1,5 @@
 -- The volume of a session stands for the tree after its entries, and answers as that tree.
-use Rattle.std.proofs.Common.{◌≡◌, ℕ, ◌+◌, map, true, List, [], ◌∷◌, length, Option, Some, None, refl, sym, ap, subst, ◌∙◌}
+use Rattle.std.proofs.Common.{◌≡◌, ℕ, suc, ◌+◌, arith, map, true, List, [], ◌∷◌, length, Option, Some, None, refl, sym, ap, subst, ◌∙◌}
 use Rattle.std.proofs.lemmas.List.{length-map}
 use Rattle.tree_model.specs.declared.call.Call.{Call}
 use Rattle.tree_model.specs.declared.call.Reply.{Reply}
@@ -9,7 +9,6 @@ use Rattle.tree_model.specs.Histories.{tree_after_entries}
 use Rattle.tree_model.specs.Plain.{AreBornBefore}
 use Rattle.volume_steps.specs.Now.{VolumeNow, tree_of_now, room_of}
 use Rattle.volume_steps.specs.Plain.{IsPlainNow}
-use Rattle.crash_laws.specs.LegalHistory.{root_alone}
 use Rattle.journal_ring.specs.LogRing.{LogRing}
 use Rattle.flush_actor.specs.Kinds.{is_begun}
 use Rattle.host_machine.specs.State.{Entry, Host}
@@ -23,7 +22,7 @@ use Rattle.minix_host.specs.Calls.{kind_of}
 use Rattle.minix_host.specs.PlainTrees.{PlainTree}
 use Rattle.minix_host.specs.Numbers.{number_in}
 use Rattle.minix_host.specs.Runs.{IsOpenedVolume, HasEmptyJournal, call_of_entry, calls_of, opened_host, host_after}
-use Rattle.minix_host.specs.Sessions.{Opening, model, Stands}
+use Rattle.minix_host.specs.Sessions.{Opening, over, Stands}
 use Rattle.minix_host.proofs.Numbered.{all_born, numbers_kept, trees_are}
 use Rattle.minix_host.proofs.OpenedVolumes.{is_opened, fits_words}
 use Rattle.minix_host.proofs.Promises.{promises, blocks_are_whole}
@@ -38,8 +37,8 @@ acting_as [] = refl
 acting_as (e ∷ es) = ap (λ (cs : List (Option Call)). call_of_entry e ∷ cs) (acting_as es)
 
 -- the tree that a history is read over is that of the tree model
-pub tree_told : (s : Opening) (h : Host VolumeNow Call Reply) (n : ℕ) → (views.tree_after (call_over s).model h.history n).tree ≡ tree_at s h n
-tree_told s h n = trees_are (λ (c : Call). c) s.geometry h.history n
+pub tree_told : (s : Opening) → AreBornBefore (s.first + 1) s.tree.tree → (h : Host VolumeNow Call Reply) (n : ℕ) → (views.tree_after (call_over s).model h.history n).tree ≡ tree_at s h n
+tree_told s born h n = trees_are (λ (c : Call). c) s.geometry s.tree s.first born h.history n
 
 module _ (s : Opening) (v : VolumeNow) (ring : LogRing) (limit : ℕ) (programs : List (List Call)) (written : AreWritten s.format s.writers) (o : IsOpenedVolume s v) (j : HasEmptyJournal s ring limit) (bytes : WriteBytes programs) where
   abbrev byte_host : List runs.Event → Host VolumeNow ByteCall Reply
@@ -59,7 +58,7 @@ module _ (s : Opening) (v : VolumeNow) (ring : LogRing) (limit : ℕ) (programs 
 
   -- what the volume of the host stands for
   abbrev now : List runs.Event → PlainTree
-  now events = views.tree_after (model s.geometry) (byte_host events).history (length (byte_host events).history)
+  now events = views.tree_after (over s).model (byte_host events).history (length (byte_host events).history)
 
   stands : (events : List runs.Event) → Stands s (at events).volume (now events)
   stands events = subst (λ (h : Host VolumeNow Call Reply). Stands s h.volume (now events)) (sym (same_host events)) (sound events).rules.2.images.0.stands
@@ -71,9 +70,9 @@ module _ (s : Opening) (v : VolumeNow) (ring : LogRing) (limit : ℕ) (programs 
   pub tree_is : (events : List runs.Event) → tree_of_now (at events).volume ≡ tree_at s (at events) (length (at events).history)
   tree_is events =
       let es = (byte_host events).history in
-      (stands events).tree ∙ trees_are (λ (c : ByteCall). c.call) s.geometry es (length es)
-      ∙ ap (λ cs. tree_after_entries (room_of s.geometry) (root_alone s.geometry.width) 0 cs (length es)) (sym (acting_as es))
-      ∙ ap (λ n. tree_after_entries (room_of s.geometry) (root_alone s.geometry.width) 0 (map acting_call (map (entry_as plain_call) es)) n) (sym (same_length events))
+      (stands events).tree ∙ trees_are (λ (c : ByteCall). c.call) s.geometry s.tree s.first o.born es (length es)
+      ∙ ap (λ cs. tree_after_entries (room_of s.geometry) s.tree.tree s.first cs (length es)) (sym (acting_as es))
+      ∙ ap (λ n. tree_after_entries (room_of s.geometry) s.tree.tree s.first (map acting_call (map (entry_as plain_call) es)) n) (sym (same_length events))
       ∙ ap (λ (h : Host VolumeNow Call Reply). tree_at s h (length (at events).history)) (sym (same_host events))
 
   pub plain_now : (events : List runs.Event) → IsPlainNow (at events).volume
@@ -83,39 +82,42 @@ module _ (s : Opening) (v : VolumeNow) (ring : LogRing) (limit : ℕ) (programs 
   room_is events = ap room_of (stands events).geometry
 
   -- the next entry's number is above all births
-  pub born : (events : List runs.Event) → AreBornBefore (length (at events).history + 1) (tree_of_now (at events).volume)
+  pub born : (events : List runs.Event) → AreBornBefore (s.first + (length (at events).history + 1)) (tree_of_now (at events).volume)
   born events =
-      subst (λ n. AreBornBefore (n + 1) (tree_of_now (at events).volume)) (sym (same_length events))
-      (subst (AreBornBefore (length (byte_host events).history + 1)) (sym (stands events).tree) (all_born (λ (c : ByteCall). c.call) s.geometry (byte_host events).history (length (byte_host events).history)))
+      let n = length (byte_host events).history in
+      let next : s.first + suc n ≡ s.first + (n + 1) = omega arith in
+      subst (λ n. AreBornBefore (s.first + (n + 1)) (tree_of_now (at events).volume)) (sym (same_length events))
+      (subst (λ k. AreBornBefore k (tree_of_now (at events).volume)) next
+      (subst (AreBornBefore (s.first + suc n)) (sym (stands events).tree) (all_born (λ (c : ByteCall). c.call) s.geometry s.tree s.first o.born (byte_host events).history n)))
 
-  number_stays : (events : List runs.Event) → number_in (tree_of_now (at events).volume) (length (at events).history + 1) ≡ length (at events).history + 1
+  number_stays : (events : List runs.Event) → number_in (tree_of_now (at events).volume) (s.first + (length (at events).history + 1)) ≡ s.first + (length (at events).history + 1)
   number_stays events =
       let n = length (byte_host events).history in
-      ap (λ k. number_in (tree_of_now (at events).volume) (k + 1)) (same_length events)
-      ∙ ap (λ tree. number_in tree (n + 1)) (stands events).tree
-      ∙ numbers_kept (λ (c : ByteCall). c.call) s.geometry (byte_host events).history n
-      ∙ ap (λ k. k + 1) (sym (same_length events))
+      ap (λ k. number_in (tree_of_now (at events).volume) (s.first + (k + 1))) (same_length events)
+      ∙ ap (λ tree. number_in tree (s.first + (n + 1))) (stands events).tree
+      ∙ numbers_kept (λ (c : ByteCall). c.call) s.geometry s.tree s.first o.born (byte_host events).history n
+      ∙ ap (λ k. s.first + (k + 1)) (sym (same_length events))
 
   -- ---- answers
 
   module _ (events : List runs.Event) (c : Call) where
     abbrev Replied : Reply
-    Replied = reply_of (room_of s.geometry) (tree_at s (at events) (length (at events).history)) (length (at events).history + 1) c
+    Replied = reply_of (room_of s.geometry) (tree_at s (at events) (length (at events).history)) (s.first + (length (at events).history + 1)) c
 
-    as_volume : reply_of (room_of (at events).volume.geometry) (tree_of_now (at events).volume) (length (at events).history + 1) c ≡ Replied
+    as_volume : reply_of (room_of (at events).volume.geometry) (tree_of_now (at events).volume) (s.first + (length (at events).history + 1)) c ≡ Replied
     as_volume =
-        ap (λ r. reply_of r (tree_of_now (at events).volume) (length (at events).history + 1) c) (room_is events)
-        ∙ ap (λ tree. reply_of (room_of s.geometry) tree (length (at events).history + 1) c) (tree_is events)
+        ap (λ r. reply_of r (tree_of_now (at events).volume) (s.first + (length (at events).history + 1)) c) (room_is events)
+        ∙ ap (λ tree. reply_of (room_of s.geometry) tree (s.first + (length (at events).history + 1)) c) (tree_is events)
 
     pub refusal_replies : (why : Reply) → (call_over s).model.reply (at events).volume c ≡ Some why → why ≡ Replied
-    refusal_replies why e = refused_reply (at events).volume (length (at events).history + 1) c (plain_now events) (born events) why e ∙ as_volume
+    refusal_replies why e = refused_reply (at events).volume (s.first + (length (at events).history + 1)) c (plain_now events) (born events) why e ∙ as_volume
 
     pub act_replies : ((call_over s).model.apply (at events).volume (length (at events).history + 1) (at events).journal.running.number c).reply ≡ Replied
     act_replies =
-        done_reply (at events).volume (length (at events).history + 1) (at events).journal.running.number c
+        done_reply (at events).volume (s.first + (length (at events).history + 1)) (at events).journal.running.number c
         ∙ ap (λ n. reply_of (room_of (at events).volume.geometry) (tree_of_now (at events).volume) n c) (number_stays events) ∙ as_volume
 
     pub begun_replies : (call_over s).model.reply (at events).volume c ≡ None → is_begun (kind_of c) ≡ true → Replied ≡ replies.Ok
     begun_replies e kind =
-        let d = free_row (at events).volume (length (at events).history + 1) c (plain_now events) (born events) e in
-        sym as_volume ∙ begun_reply (room_of (at events).volume.geometry) (tree_of_now (at events).volume) (length (at events).history + 1) c d.0 kind d.1
+        let d = free_row (at events).volume (s.first + (length (at events).history + 1)) c (plain_now events) (born events) e in
+        sym as_volume ∙ begun_reply (room_of (at events).volume.geometry) (tree_of_now (at events).volume) (s.first + (length (at events).history + 1)) c d.0 kind d.1

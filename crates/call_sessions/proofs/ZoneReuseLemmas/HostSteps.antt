@@ -18,7 +18,8 @@ use Rattle.number_sets.specs.laws.Members.{In_or_not}
 use Rattle.page_cache.specs.Pages.{is_unsent, is_dirty, page_at}
 use Rattle.page_cache.specs.declared.cached_page.CachedPage.{CachedPage}
 use Rattle.page_cache.specs.laws.Order.{keyed}
-use Rattle.crash_laws.specs.History.{History}
+use Rattle.crash_laws.specs.History.{History, last_write}
+use Rattle.crash_laws.proofs.Histories.{mapped_was_written}
 use Rattle.crash_laws.specs.laws.Submitting.{Submitting}
 use Rattle.flush_actor.specs.Kinds.{is_begun, is_data}
 use Rattle.flush_actor.specs.Part.{is_over, at_limit}
@@ -27,7 +28,7 @@ use Rattle.journal_ring.specs.LogRing.{ring_free}
 use Rattle.journal_ring.specs.running.Plan.{Planned}
 use Rattle.journal_ring.specs.running.Running.{log_needs}
 use Rattle.commit_actor.specs.Journal.{Plan, Phase, Idle, Closing, Committing, is_submitted}
-use Rattle.host_machine.proofs.Entries.{entry_noted, tree_new, history_noted, length_new}
+use Rattle.host_machine.proofs.Entries.{entry_noted, trees_noted, tree_new, history_noted, length_new}
 use Rattle.host_machine.proofs.Machine.{plain_at}
 use Rattle.host_machine.proofs.ReuseSteps.{send_reuses, send_orderless}
 use Rattle.host_machine.proofs.Sends.{plainly}
@@ -53,7 +54,7 @@ module _ {A T V C R : Type 0} {o : Over A T V C R} {Stands : V → T → Type 0}
   abbrev pub Zones : Host V C R → Type 0
   Zones s = ZoneFacts (noted_history o Stands s.history s.cuts) (session o Stands [] s) (length s.history) (view_of o s.volume) s.owners frees
 
-  module _ (s : Host V C R) (txs : List Transaction) (N : ℕ) (facts : KeepsImages o Stands s txs N) (zones : Zones s) where
+  module _ (empty : (f i : ℕ) → o.model.maps o.model.root f i ≡ false) (s : Host V C R) (txs : List Transaction) (N : ℕ) (facts : KeepsImages o Stands s txs N) (zones : Zones s) where
     abbrev h : History A
     h = noted_history o Stands s.history s.cuts
 
@@ -175,6 +176,14 @@ module _ {A T V C R : Type 0} {o : Over A T V C R} {Stands : V → T → Type 0}
       abbrev next : List ℕ
       next = taken_zones o.model o.setup r s.pages s.owners applied.touched.pages
 
+      -- a block that is mapped was written, since the tree that was opened has none
+      written_before : (f i : ℕ) → o.model.maps before f i ≡ true → 1 ≤ last_write (noted_history o Stands s.history s.cuts) f i (length s.history)
+      written_before f i maps =
+          let was = mapped_was_written (trees_noted o.model contract.trees o.place s.history s.cuts facts.0.rise) f i (length s.history) maps in
+          ⊎_elim (λ pos. pos)
+          (λ none. let q : last_write (noted_history o Stands s.history s.cuts) f i (length s.history) ≡ 0 = omega arith in absurd (false≢true (sym (empty f i) ∙ subst (λ n. o.model.maps (tree_after o.model s.history n) f i ≡ true) q was.there)))
+          (cases_lt 0 (last_write (noted_history o Stands s.history s.cuts) f i (length s.history)))
+
       owner_kept : (f i z : ℕ) → o.model.zone applied.volume f i ≡ Some z → (x : Option ℕ) → o.model.zone s.volume f i ≡ x
           → ((o.model.zone s.volume f i ≡ Some z) × (slice_index_or next z 0 ≡ slice_index_or s.owners z 0)) ⊎ ((o.model.maps before f i ≡ false) × (slice_index_or next z 0 ≡ r))
       owner_kept f i z there (Some y) e =
@@ -184,7 +193,8 @@ module _ {A T V C R : Type 0} {o : Over A T V C R} {Stands : V → T → Type 0}
           other : (w : FileBlock) → In w applied.touched.pages → IsFresh s.pages w → w.block ≡ z → ⊥
           other w j fresh block =
               let one = new_plain.one_page f i w.birth w.index z there ((done.1.written w j).1 ∙ ap Some block) in
-              let p = facts.0.mapped.all w.birth w.index y (ap (λ g. o.model.zone s.volume g w.index) (sym one.0) ∙ ap (o.model.zone s.volume f) (sym one.1) ∙ e) in
+              let here = ap (λ g. o.model.zone s.volume g w.index) (sym one.0) ∙ ap (o.model.zone s.volume f) (sym one.1) ∙ e in
+              let p = facts.0.mapped.all w.birth w.index y here (written_before w.birth w.index (old_plain.mapped w.birth w.index y here)) in
               none-some p.0 (sym fresh ∙ p.1)
       owner_kept f i z there None e =
           let unmapped : o.model.maps before f i ≡ false = ⊎_elim (λ maps. let y = old_plain.there f i maps in absurd (none-some y.0 (sym e ∙ y.1))) (λ n. n) (cases_Bool (o.model.maps before f i)) in

@@ -94,13 +94,13 @@ module _ {A T V C R : Type 0} {o : Over A T V C R} {Stands : V → T → Type 0}
       let above = later (stepped o s x) es (step_keeps contract written blocks s x sound fits) (step_fits contract written blocks s x sound fits) e z f in
       omega arith
 
-  module _ (frees : ℕ → ℕ → Bool) where
+  module _ (empty : (f i : ℕ) → o.model.maps o.model.root f i ≡ false) (frees : ℕ → ℕ → Bool) where
     pub zones_kept : (s : Host V C R) (es : List Event) → IsSound contract s → FitsWords o s → Zones contract frees s
         → ((e z : ℕ) → frees e z ≡ true → length s.history < e → Frees o s es e z) → Zones contract frees (steps o s es)
     zones_kept s [] sound fits zones told = zones
     zones_kept s (x ∷ es) sound fits zones told =
         zones_kept (stepped o s x) es next next_fits
-        (step_zones contract frees s sound.rules.0 sound.rules.1 sound.rules.2.images zones x next now)
+        (step_zones contract frees empty s sound.rules.0 sound.rules.1 sound.rules.2.images zones x next now)
         (λ e z fr lt. let m = more in behind e z lt (told e z fr (omega arith)))
       where
         next : IsSound contract (stepped o s x)
@@ -123,13 +123,13 @@ module _ {A T V C R : Type 0} {o : Over A T V C R} {Stands : V → T → Type 0}
         behind e z lt (inl f) = let made = f.made in absurd (omega arith)
         behind e z lt (inr f) = f
 
-    pub zones_at_start : (v : V) (ring : LogRing) (zones limit : ℕ) (programs : List (List C)) → Stands v o.model.root → o.setup.journal ≤ zones
+    pub zones_at_start : (v : V) (ring : LogRing) (zones limit : ℕ) (programs : List (List C)) → Stands v o.model.root → ((f i : ℕ) → o.model.maps o.model.root f i ≡ false) → o.setup.journal ≤ zones
         → ((e z : ℕ) → frees e z ≡ true → 0 < e) → Zones contract frees (opened o.model o.setup v ring zones limit programs)
-    zones_at_start v ring zones limit programs stands room above = record {
+    zones_at_start v ring zones limit programs stands empty room above = record {
       freed = λ e z fr le. let lt = above e z fr in absurd (omega arith);
       owned = record {
         owner = λ f i z there.
-            absurd (false≢true (sym (contract.trees.empty f i) ∙ (contract.plain v o.model.root stands).mapped f i z there));
+            absurd (false≢true (sym (empty f i) ∙ (contract.plain v o.model.root stands).mapped f i z there));
       };
       room = subst (λ n. o.setup.journal ≤ n) (sym (length-replicate {A = ℕ} zones 0)) room;
       reuses = record { behind = λ p f i w z e t. absurd (none-some (Page f i w) t.note) };
@@ -137,7 +137,7 @@ module _ {A T V C R : Type 0} {o : Over A T V C R} {Stands : V → T → Type 0}
     }
 
   -- a whole run
-  module _ (v : V) (ring : LogRing) (zones limit : ℕ) (programs : List (List C)) (at : IsOpened o Stands v ring zones limit programs) (fits : FitsWords o (opened o.model o.setup v ring zones limit programs)) (room : o.setup.journal ≤ zones) where
+  module _ (v : V) (ring : LogRing) (zones limit : ℕ) (programs : List (List C)) (at : IsOpened o Stands v ring zones limit programs) (fits : FitsWords o (opened o.model o.setup v ring zones limit programs)) (empty : (f i : ℕ) → o.model.maps o.model.root f i ≡ false) (room : o.setup.journal ≤ zones) where
     abbrev first : Host V C R
     first = opened o.model o.setup v ring zones limit programs
 
@@ -153,8 +153,8 @@ module _ {A T V C R : Type 0} {o : Over A T V C R} {Stands : V → T → Type 0}
 
     zones_after : (frees : ℕ → ℕ → Bool) (events : List Event) → ((e z : ℕ) → frees e z ≡ true → Frees o first events e z) → Zones contract frees (steps o first events)
     zones_after frees events told =
-        zones_kept frees first events sound fits
-        (zones_at_start frees v ring zones limit programs at.stands room (λ e z fr. later first events sound fits e z (told e z fr)))
+        zones_kept empty frees first events sound fits
+        (zones_at_start empty frees v ring zones limit programs at.stands empty room (λ e z fr. later first events sound fits e z (told e z fr)))
         (λ e z fr lt. told e z fr)
 
     reuses : (events : List Event) (closed : List Transaction) (frees : ℕ → ℕ → Bool) → ((e z : ℕ) → frees e z ≡ true → Frees o first events e z)

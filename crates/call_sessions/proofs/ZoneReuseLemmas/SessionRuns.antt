@@ -1,8 +1,9 @@
 -- Sessions on a volume: over calls with bytes, and over calls as code has them.
-use Rattle.std.proofs.Common.{◌≡◌, ℕ, Bool, List, [], ◌∷◌, length, sym, ap, subst, inl, inr, arith}
+use Rattle.std.proofs.Common.{◌≡◌, ℕ, Bool, false, List, [], ◌∷◌, length, sym, ap, subst, inl, inr, arith}
 use Rattle.std.proofs.lemmas.List.{length-map}
 use Rattle.log_model.specs.Marks.{Transaction}
 use Rattle.tree_model.specs.declared.call.Call.{Call}
+use Rattle.tree_model.specs.Histories.{maps_block}
 use Rattle.tree_model.specs.declared.call.Reply.{Reply}
 use Rattle.volume_steps.specs.Now.{VolumeNow}
 use Rattle.crash_laws.specs.History.{History}
@@ -88,10 +89,10 @@ module _ (s : Opening) where
 
   -- ---- sessions
 
-  module _ (v : VolumeNow) (ring : LogRing) (limit : ℕ) (written : AreWritten s.format s.writers) (o : IsOpenedVolume s v) (j : HasEmptyJournal s ring limit) where
+  module _ (v : VolumeNow) (ring : LogRing) (limit : ℕ) (written : AreWritten s.format s.writers) (o : IsOpenedVolume s v) (j : HasEmptyJournal s ring limit) (empty : (f i : ℕ) → maps_block s.tree.tree f i ≡ false) where
     byte_session : (programs : List (List ByteCall)) (events : List Event) → ReusesZones (over s) (Stands s) (opened_host s v ring limit programs) events
     byte_session programs events =
-        run_reuses (promises s) written (blocks_are_whole s) v ring s.geometry.zones limit programs (is_opened s v o ring limit programs j) (fits_words s v o ring limit programs j) (omega arith) events
+        run_reuses (promises s) written (blocks_are_whole s) v ring s.geometry.zones limit programs (is_opened s v o ring limit programs j) (fits_words s v o ring limit programs j) empty (omega arith) events
 
     pub session_reuses : (programs : List (List Call)) → WriteBytes programs → (events : List Event) → ReusesZones (call_over s) (Stands s) (opened_with s v ring limit programs) events
     session_reuses programs bytes events =

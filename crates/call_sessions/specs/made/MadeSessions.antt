@@ -8,6 +8,7 @@ use Rattle.minix_tables.specs.zones.Zones.{made}
 use Rattle.volume_model.specs.NewVolume.{root_placed}
 use Rattle.volume_steps.specs.Now.{VolumeNow}
 use Rattle.mount_make.specs.Made.{made_volume, made_image, new_journal}
+use Rattle.minix_host.specs.PlainTrees.{root_tree}
 use Rattle.minix_host.specs.Sessions.{Opening}
 
 -- its volume in use: the root is there alone, and has the first zone
@@ -19,6 +20,9 @@ abbrev pub made_opening : Geometry → ℕ → Bool → ℕ → Opening
 made_opening g journal wide quota = record {
   geometry = g;
   root = g.first;
+  tree = root_tree g.width;
+  first = 0;
+  freeable = [];
   image = made_image g journal wide;
   writers = writers (new_journal journal wide);
   format = format wide;

@@ -36,8 +36,8 @@ pub record FollowsTree (s : Opening) (programs : List (List Call)) (h : Host Vol
   -- the entries of each thread are the calls of its program, from the first on: each ends at once, or begins and ends later
   pub ordered : (t : ℕ) → Follows (of_thread t (events_in h.history)) (program_of programs t)
   -- a call begins where the tree before it does not refuse it
-  pub begins : (i t : ℕ) (c : Call) → BeginsAt h.history i t c → (is_begun (kind_of c) ≡ true) × (reply_of (room_of s.geometry) (tree_at s h i) (i + 1) c ≡ replies.Ok)
+  pub begins : (i t : ℕ) (c : Call) → BeginsAt h.history i t c → (is_begun (kind_of c) ≡ true) × (reply_of (room_of s.geometry) (tree_at s h i) (s.first + (i + 1)) c ≡ replies.Ok)
   -- an answer is the tree's, but for the Ok of a barrier or sync call, which the tree gave where it began
-  pub answers : (i t : ℕ) (c : Call) (r : Reply) → EndsAt h.history i t c (Answered r) → (is_begun (kind_of c) ≡ true → r ≢ replies.Ok) → r ≡ reply_of (room_of s.geometry) (tree_at s h i) (i + 1) c
+  pub answers : (i t : ℕ) (c : Call) (r : Reply) → EndsAt h.history i t c (Answered r) → (is_begun (kind_of c) ≡ true → r ≢ replies.Ok) → r ≡ reply_of (room_of s.geometry) (tree_at s h i) (s.first + (i + 1)) c
   -- a call that began is answered Ok, or not at all
   pub ends : (b i t : ℕ) (c : Call) (r : Reply) → IsBeginOf h.history b i t c → EndsAt h.history i t c (Answered r) → r ≡ replies.Ok

@@ -1,8 +1,9 @@
 //! The laws, each a public function that does nothing when it is called.
-ghost use Rattle.std.specs.Prelude.{◌≡◌, ℕ, ◌≤◌, ◌++◌, false, true, List, length};
+ghost use Rattle.std.specs.Prelude.{◌≡◌, ℕ, ◌+◌, ◌≤◌, ◌++◌, false, true, List, length};
 ghost use Rattle.tree_model.specs.declared.call.Call.{Call};
 ghost use Rattle.tree_model.specs.declared.call.Reply.{Reply};
 ghost use Rattle.volume_steps.specs.Now.{VolumeNow, room_of};
+ghost use Rattle.tree_model.specs.Plain.{AreBornBefore};
 ghost use Rattle.crash_laws.specs.LegalHistory.{is_turned_away, tree_up_to, IsLegal};
 ghost use Rattle.journal_ring.specs.LogRing.{LogRing};
 ghost use Rattle.flush_actor.specs.Kinds.{is_data};
@@ -64,15 +65,15 @@ pub fn histories_follow_the_tree()
         FollowsTree s programs (host_behind s v ring limit programs events) }
     ensures legal { (s : Opening) (v : VolumeNow) (ring : LogRing) (limit : ℕ) (programs : List (List Call)) (events : List Event) →
         AreWritten s.format s.writers → IsOpenedVolume s v → HasEmptyJournal s ring limit → WriteBytes programs →
-        IsLegal (room_of s.geometry) s.geometry.width (program_of programs) (events_in (host_behind s v ring limit programs events).history) }
+        IsLegal (room_of s.geometry) s.tree.tree s.first (program_of programs) (events_in (host_behind s v ring limit programs events).history) }
 {}
 
 /// A law, which does nothing when it is called: three spellings of the trees of a session are one. The tree that its
 /// history is read over, for which blocks are mapped and what they have, is that which the tree model has after the calls
 /// that were answered; and so is the tree of the events, over which `crash_laws` says what is legal.
 pub fn trees_of_sessions_are_one()
-    ensures told { (s : Opening) (h : Host VolumeNow Call Reply) (n : ℕ) → (tree_after (call_over s).model h.history n).tree ≡ tree_at s h n }
+    ensures told { (s : Opening) → AreBornBefore (s.first + 1) s.tree.tree → (h : Host VolumeNow Call Reply) (n : ℕ) → (tree_after (call_over s).model h.history n).tree ≡ tree_at s h n }
     ensures legal { (s : Opening) (v : VolumeNow) (ring : LogRing) (limit : ℕ) (programs : List (List Call)) (events : List Event) (n : ℕ) →
         let h = host_behind s v ring limit programs events in
-        n ≤ length h.history → tree_up_to (room_of s.geometry) s.geometry.width (events_in h.history) n ≡ tree_at s h n }
+        n ≤ length h.history → tree_up_to (room_of s.geometry) s.tree.tree s.first (events_in h.history) n ≡ tree_at s h n }
 {}

@@ -1,9 +1,10 @@
 //! Laws of whole runs and whole sessions.
 ghost use Rattle.minix_layout.specs.declared.limits.TheConstants.{LEAST_JOURNAL, MOST_JOURNAL};
-ghost use Rattle.std.specs.Prelude.{◌≤◌, ◌<◌, ◌+◌, ℕ, Bool, List, Option};
+ghost use Rattle.std.specs.Prelude.{◌≡◌, ◌≤◌, ◌<◌, ◌+◌, ℕ, Bool, false, List, Option};
 ghost use Rattle.minix_layout.specs.declared.division.Geometry.{Geometry};
 ghost use Rattle.minix_layout.specs.Geometry.{IsSound};
 ghost use Rattle.tree_model.specs.declared.call.Call.{Call};
+ghost use Rattle.tree_model.specs.Histories.{maps_block};
 ghost use Rattle.volume_steps.specs.Now.{VolumeNow};
 ghost use Rattle.journal_ring.specs.LogRing.{LogRing};
 ghost use Rattle.host_machine.specs.Host.{opened};
@@ -26,7 +27,8 @@ use minix_host::new_volumes_are_in_use;
 pub fn runs_reuse_zones_behind_commits<A, T, V, C, R>()
     ensures { (o : Over A T V C R) (tree : V → Option T) (contract : Contract o (StandsAs tree)) (v : V) (ring : LogRing) (zones limit : ℕ) (programs : List (List C)) (events : List Event) →
         AreWritten o.format o.setup.writers → HasBlocks o (StandsAs tree) → IsOpened o (StandsAs tree) v ring zones limit programs →
-        FitsWords o (opened o.model o.setup v ring zones limit programs) → o.setup.journal ≤ zones →
+        FitsWords o (opened o.model o.setup v ring zones limit programs) →
+        ((f i : ℕ) → o.model.maps o.model.root f i ≡ false) → o.setup.journal ≤ zones →
         ReusesZones o (StandsAs tree) (opened o.model o.setup v ring zones limit programs) events }
 {}
 
@@ -41,6 +43,7 @@ pub fn runs_reuse_zones_behind_commits<A, T, V, C, R>()
 pub fn sessions_reuse_zones_behind_commits()
     ensures opened { (s : Opening) (v : VolumeNow) (ring : LogRing) (limit : ℕ) (programs : List (List Call)) (events : List Event) →
         AreWritten s.format s.writers → IsOpenedVolume s v → HasEmptyJournal s ring limit → WriteBytes programs →
+        ((f i : ℕ) → maps_block s.tree.tree f i ≡ false) →
         ReusesZones (call_over s) (Stands s) (opened_with s v ring limit programs) events }
     ensures made { (g : Geometry) (journal : ℕ) (wide : Bool) (quota limit : ℕ) (programs : List (List Call)) (events : List Event) →
         IsSound g → LEAST_JOURNAL ≤ journal → journal ≤ MOST_JOURNAL → limit + 2 < 4294967296 → WriteBytes programs →

@@ -4,6 +4,7 @@ use Rattle.blk_base.specs.Members.{In}
 use Rattle.log_model.specs.Marks.{Keep, Set, bodies_mark, mark_in, transactions_from}
 use Rattle.crash_laws.specs.History.{History}
 use Rattle.crash_laws.specs.laws.HostFacts.{Host}
+use Rattle.crash_laws.specs.Rules.{IsOlder}
 use Rattle.crash_laws.specs.Session.{Session, image_of}
 
 -- What a call tells: the blocks that it touched, the zones that it freed, and those of metadata among them. It
@@ -52,4 +53,4 @@ pub record HasZones {A : Type 0} (h : History A) (host : Host) : Type 0 where
 -- each block of metadata has its body among the running ones, or is as in the last image
 abbrev pub IsPresent : Session → Host → ℕ → Type 0
 IsPresent s host b = (bodies_mark host.bodies b ≡ Set (host.volume b))
-    ⊎ ((bodies_mark host.bodies b ≡ Keep) × (host.volume b ≡ image_of s (host.running - 1) b) × (In b s.reserved ⊎ ((x : List ℕ) × (mark_in (transactions_from s.transactions 1 (host.running - 1)) b ≡ Set x))))
+    ⊎ ((bodies_mark host.bodies b ≡ Keep) × (host.volume b ≡ image_of s (host.running - 1) b) × (IsOlder s (host.running - 1) b ⊎ ((x : List ℕ) × (mark_in (transactions_from s.transactions 1 (host.running - 1)) b ≡ Set x))))

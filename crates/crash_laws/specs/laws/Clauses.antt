@@ -8,10 +8,10 @@ use Rattle.order_model.specs.OrderClosed.{is_flush, IsPutOf, IsPutWith, kind_blo
 use Rattle.std.specs.Option.{unwrap_or}
 use Rattle.volume_ops.specs.Reads.{Reads, blocks_read}
 use Rattle.log_model.specs.Log.{Spells}
-use Rattle.log_model.specs.Marks.{Set, mark_in, transactions_from}
+use Rattle.log_model.specs.Marks.{Clear, Set, mark_in, transactions_from}
 use Rattle.log_model.specs.Ring.{places_on, IsPlace}
 use Rattle.crash_laws.specs.Ordering.{IsClosedOff}
-use Rattle.crash_laws.specs.Rules.{HasHeader, is_page_or_flush}
+use Rattle.crash_laws.specs.Rules.{HasHeader, IsOlder, is_page_or_flush}
 use Rattle.crash_laws.specs.Session.{Session, log_transaction, IsLog, HasNote, CommitBefore, log_blocks, log_blocks_of, bodies_of, sequence_of, first_place, IsSuperOf, image_of}
 use Rattle.crash_laws.specs.laws.Submitting.{Submitting, after, IsCommitted}
 
@@ -67,13 +67,18 @@ pub record CheckpointClause (s : Session) (q : Request) (n : Note) : Type 0 wher
   pub first : n ≡ Commit 1 → (i : ℕ) × IsSuperOf s i 0
   pub before : (i freed : ℕ) → n ≡ Commit (freed + 1) → IsSuperOf s i freed → IsClosedOff s.requests i
 
+-- a transaction that gave the block up is committed
+abbrev pub IsFreedNow : Session → ℕ → Type 0
+IsFreedNow s b = (k : ℕ) × IsCommitted s k × (mark_in (transactions_from s.transactions 1 k) b ≡ Clear)
+
 -- what a commit block, a home and a page owe
 pub record ImageClause {A : Type 0} (program : Reads A) (p : Submitting) : Type 0 where
   pub bodies : (k b : ℕ) (x : List ℕ) → p.note ≡ Commit k → mark_in (transactions_from p.transactions 1 k) b ≡ Set x → b < p.session.journal
   pub revokes : (k b : ℕ) → p.note ≡ Commit k → In b (p.transactions k).revokes → In b p.session.reserved → ⊥
-  pub logged : (k b : ℕ) → p.note ≡ Commit k → In b (blocks_read (image_of (after p) k) program) → In b p.session.reserved ⊎ ((x : List ℕ) × (mark_in (transactions_from p.transactions 1 k) b ≡ Set x))
+  pub logged : (k b : ℕ) → p.note ≡ Commit k → In b (blocks_read (image_of (after p) k) program) → IsOlder (after p) k b ⊎ ((x : List ℕ) × (mark_in (transactions_from p.transactions 1 k) b ≡ Set x))
   pub home : (b : ℕ) → p.note ≡ Home b → (k : ℕ) × IsCommitted p.session k × (IsCommitted p.session (k + 1) → ⊥) × (x : List ℕ) × (kind_body p.request.kind ≡ Some x) × (mark_in (transactions_from p.session.transactions 1 k) b ≡ Set x)
   pub page : (f i v z k : ℕ) (x : List ℕ) → p.note ≡ Page f i v → kind_block p.request.kind ≡ Some z → mark_in (transactions_from p.session.transactions 1 k) z ≡ Set x → IsCommitted p.session k → IsCommitted p.session (k + 1)
+  pub freed : (f i v z : ℕ) → p.note ≡ Page f i v → kind_block p.request.kind ≡ Some z → In z p.session.freeable → IsFreedNow p.session z
 
 -- what the new request owes
 pub record OrderClause {A : Type 0} (program : Reads A) (p : Submitting) : Type 0 where

@@ -108,6 +108,7 @@ with_first n = record {
   sequence = 1;
   transactions = logged;
   reserved = 1 ∷ [];
+  freeable = [];
 }
 
 -- one request more

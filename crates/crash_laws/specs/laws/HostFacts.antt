@@ -39,6 +39,16 @@ pub record IsDead {A : Type 0} (h : History A) (s : Session) (host : Host) (N o 
   pub closed : k < host.running → entry ≤ h.cut k
   pub given_up : ((c : ℕ) × IsCommit s k c × (o < c) × (entry ≤ h.cut k)) ⊎ ((N < k) × (host.quarantine z ≡ Some k))
 
+-- The same of a block that the tree which was opened has, at block z.
+pub record IsOpenedDead {A : Type 0} (h : History A) (s : Session) (host : Host) (N f i z : ℕ) : Type 0 where
+  pub k : ℕ
+  pub entry : ℕ
+  pub later : 1 ≤ entry
+  pub in_time : entry ≤ host.now
+  pub unmapped : IsUnmapped h f i entry
+  pub closed : k < host.running → entry ≤ h.cut k
+  pub given_up : ((c : ℕ) × IsCommit s k c × (entry ≤ h.cut k)) ⊎ ((N < k) × (host.quarantine z ≡ Some k))
+
 -- N transactions are submitted. All below the running one are closed, and the last of these may be on its way.
 pub record HostFacts {A : Type 0} (program : Reads A) (h : History A) (s : Session) (host : Host) (N : ℕ) : Type 0 where
   pub closed : (N + 1 ≡ host.running) ⊎ (N + 2 ≡ host.running)
@@ -62,3 +72,4 @@ pub record HostFacts {A : Type 0} (program : Reads A) (h : History A) (s : Sessi
   pub cuts_now : (k : ℕ) → k < host.running → h.cut k ≤ host.now
   -- the history of zones
   pub live_or_dead : (o f i v z : ℕ) → IsPageTo s o f i v z → IsLive h host f i v z ⊎ IsDead h s host N o f i v z
+  pub opened_live_or_dead : (f i : ℕ) → h.maps 0 f i ≡ true → IsLive h host f i 0 (place_at program h s 0 f i) ⊎ IsOpenedDead h s host N f i (place_at program h s 0 f i)

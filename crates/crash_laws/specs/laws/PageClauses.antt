@@ -22,6 +22,16 @@ pub record IsGivenUpNow {A : Type 0} (h : History A) (s : Session) (f i v o : �
   pub within : entry ≤ h.cut k
   pub unmapped : IsUnmapped h f i entry
 
+-- the same of a block that the tree which was opened has
+pub record IsOpenedGivenUp {A : Type 0} (h : History A) (s : Session) (f i : ℕ) : Type 0 where
+  pub k : ℕ
+  pub commit : ℕ
+  pub committed : IsCommit s k commit
+  pub entry : ℕ
+  pub later : 1 ≤ entry
+  pub within : entry ≤ h.cut k
+  pub unmapped : IsUnmapped h f i entry
+
 -- what a Page request owes
 pub record NewPageClause {A : Type 0} (program : Reads A) (h : History A) (s : Session) (q : Request) (f i v z : ℕ) : Type 0 where
   pub content : kind_body q.kind ≡ Some (h.content f i v)
@@ -30,13 +40,15 @@ pub record NewPageClause {A : Type 0} (program : Reads A) (h : History A) (s : S
   pub versions : (o w y : ℕ) → IsPageTo s o f i w y → w ≤ v
   pub another : (o g j w : ℕ) → IsPageTo s o g j w z → ((g ≡ f) × (j ≡ i) → ⊥) → IsGivenUpNow h s g j w o
   pub logged : (k : ℕ) (x : List ℕ) → IsCommitted s k → mark_in (transactions_from s.transactions 1 k) z ≡ Set x → IsCommitted s (k + 1)
+  pub given_up : (g j : ℕ) → h.maps 0 g j ≡ true → z ≡ place_at program h s 0 g j → ((g ≡ f) × (j ≡ i) → ⊥) → IsOpenedGivenUp h s g j
 
 -- what a commit block owes for the pages before it
 pub record CommitPagesClause {A : Type 0} (program : Reads A) (h : History A) (p : Submitting) (k : ℕ) : Type 0 where
   pub place : (o f i v z : ℕ) → IsPageTo p.session o f i v z → h.maps (h.cut k) f i ≡ true → Calm h f i v (h.cut k) → Calm h f i (h.cut k) v → z ≡ place_at program h (after p) k f i
   pub logged : (o f i v z : ℕ) (x : List ℕ) → IsPageTo p.session o f i v z → mark_in (transactions_from p.transactions 1 k) z ≡ Set x → (c : ℕ) × IsCommit p.session (k - 1) c × (o < c) × (v ≤ h.cut (k - 1))
   pub files : (f i : ℕ) (x : List ℕ) → h.maps (h.cut k) f i ≡ true → mark_in (transactions_from p.transactions 1 k) (place_at program h (after p) k f i) ≡ Set x → ⊥
-  pub sent : (f i : ℕ) → h.changes k f ≡ true → h.maps (h.cut k) f i ≡ true
+  pub stays : (f i : ℕ) → h.maps 0 f i ≡ true → Calm h f i 0 (h.cut k) → place_at program h p.session 0 f i ≡ place_at program h (after p) k f i
+  pub sent : (f i : ℕ) → h.changes k f ≡ true → h.maps (h.cut k) f i ≡ true → 1 ≤ last_write h f i (h.cut k)
       → (o : ℕ) × HasNote p.session o (Page f i (last_write h f i (h.cut k))) × IsOrdered p.session.requests o × IsClosedOff p.session.requests o
 
 pub record PageClause {A : Type 0} (program : Reads A) (h : History A) (p : Submitting) : Type 0 where

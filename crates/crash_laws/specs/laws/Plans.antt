@@ -6,6 +6,7 @@ use Rattle.log_model.specs.Marks.{Keep, Set, bodies_mark, mark_in, transactions_
 use Rattle.crash_laws.specs.History.{History, Calm}
 use Rattle.crash_laws.specs.laws.HostFacts.{Host}
 use Rattle.crash_laws.specs.PageRules.{IsPageTo, place_at}
+use Rattle.crash_laws.specs.Rules.{IsOlder}
 use Rattle.crash_laws.specs.Session.{Session, IsCommit, image_of}
 
 -- what the plan of the running transaction needs beside
@@ -13,7 +14,7 @@ pub record PlanFacts {A : Type 0} (program : Reads A) (h : History A) (s : Sessi
   -- each block of metadata has its body among the running ones, or is as in the last image, where it was logged
   -- or is the base image's
   pub present : (b : ℕ) → host.metadata b ≡ true → (bodies_mark host.bodies b ≡ Set (host.volume b))
-      ⊎ ((bodies_mark host.bodies b ≡ Keep) × (host.volume b ≡ image_of s (host.running - 1) b) × (In b s.reserved ⊎ ((x : List ℕ) × (mark_in (transactions_from s.transactions 1 (host.running - 1)) b ≡ Set x))))
+      ⊎ ((bodies_mark host.bodies b ≡ Keep) × (host.volume b ≡ image_of s (host.running - 1) b) × (IsOlder s (host.running - 1) b ⊎ ((x : List ℕ) × (mark_in (transactions_from s.transactions 1 (host.running - 1)) b ≡ Set x))))
   pub bodies_there : (b : ℕ) (x : List ℕ) → bodies_mark host.bodies b ≡ Set x → host.metadata b ≡ true
   pub low : (b : ℕ) → host.metadata b ≡ true → b < s.journal
   pub base_stays : (b : ℕ) → In b host.revokes → In b s.reserved → ⊥
@@ -29,3 +30,4 @@ pub record IsCommitting {A : Type 0} (program : Reads A) (h : History A) (s : Se
   pub place : (o f i v z : ℕ) → IsPageTo s o f i v z → h.maps (h.cut k) f i ≡ true → Calm h f i v (h.cut k) → Calm h f i (h.cut k) v → z ≡ place_at program h s k f i
   pub logged : (o f i v z : ℕ) (x : List ℕ) → IsPageTo s o f i v z → mark_in (transactions_from s.transactions 1 k) z ≡ Set x → (c : ℕ) × IsCommit s (k - 1) c × (o < c) × (v ≤ h.cut (k - 1))
   pub files : (f i : ℕ) (x : List ℕ) → h.maps (h.cut k) f i ≡ true → mark_in (transactions_from s.transactions 1 k) (place_at program h s k f i) ≡ Set x → ⊥
+  pub stays : (f i : ℕ) → h.maps 0 f i ≡ true → Calm h f i 0 (h.cut k) → place_at program h s 0 f i ≡ place_at program h s k f i

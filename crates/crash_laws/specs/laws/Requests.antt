@@ -9,9 +9,9 @@ use Rattle.volume_ops.specs.Reads.{Reads, blocks_read}
 use Rattle.log_model.specs.Log.{Spells}
 use Rattle.log_model.specs.Marks.{Set, mark_in, transactions_from}
 use Rattle.log_model.specs.Ring.{IsPlace, places_on}
-use Rattle.crash_laws.specs.laws.Clauses.{SuperClause}
+use Rattle.crash_laws.specs.laws.Clauses.{SuperClause, IsFreedNow}
 use Rattle.crash_laws.specs.Ordering.{IsClosedOff}
-use Rattle.crash_laws.specs.Rules.{HasHeader}
+use Rattle.crash_laws.specs.Rules.{HasHeader, IsOlder}
 use Rattle.crash_laws.specs.Session.{log_transaction, IsLog, log_blocks, log_blocks_of, bodies_of, sequence_of, IsSuperOf, image_of}
 use Rattle.crash_laws.specs.laws.Submitting.{Submitting, after, IsCommitted}
 
@@ -24,6 +24,7 @@ pub record IsPageRequest (p : Submitting) (f i v : ℕ) : Type 0 where
   pub low : zone < p.session.journal
   pub free : In zone p.session.reserved → ⊥
   pub unlogged : (k : ℕ) (x : List ℕ) → mark_in (transactions_from p.session.transactions 1 k) zone ≡ Set x → IsCommitted p.session k → IsCommitted p.session (k + 1)
+  pub freed : In zone p.session.freeable → IsFreedNow p.session zone
 
 -- a flush writes nothing
 pub record IsFlushRequest (p : Submitting) : Type 0 where
@@ -76,7 +77,7 @@ pub record IsCommitRequest {A : Type 0} (program : Reads A) (p : Submitting) (k 
   pub tail : (i freed : ℕ) → freed + 1 ≡ k → IsSuperOf p.session i freed → IsClosedOff p.session.requests i
   pub bodies : (b : ℕ) (x : List ℕ) → mark_in (transactions_from p.transactions 1 k) b ≡ Set x → b < p.session.journal
   pub revokes : (b : ℕ) → In b (p.transactions k).revokes → In b p.session.reserved → ⊥
-  pub logged : (b : ℕ) → In b (blocks_read (image_of (after p) k) program) → In b p.session.reserved ⊎ ((x : List ℕ) × (mark_in (transactions_from p.transactions 1 k) b ≡ Set x))
+  pub logged : (b : ℕ) → In b (blocks_read (image_of (after p) k) program) → IsOlder (after p) k b ⊎ ((x : List ℕ) × (mark_in (transactions_from p.transactions 1 k) b ≡ Set x))
 
 -- a descriptor, a revoke block or a body: a log block that is no commit block
 abbrev pub IsPartRequest : Submitting → ℕ → Type 0

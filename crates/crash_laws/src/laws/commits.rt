@@ -23,8 +23,9 @@ pub fn kept_commits_are_a_prefix()
 {}
 
 /// A law, which does nothing when it is called: the log blocks of each kept transaction that no superblock freed
-/// are on the medium, no place of the log reads as the commit block of the next one, and so the log that is read
-/// has the transactions from the tail to the last kept commit block.
+/// are on the medium, no place of the log reads as the commit block of the next one or of a later one, and so the log
+/// that is read has the transactions from the tail to the last kept commit block, and the log is one behind which a
+/// session can begin whose first transaction is the next one.
 pub fn logs_end_at_the_last_kept_commit()
     ensures whole { (g : Geometry) (s : Session) (m : Medium) (freed k i block : ℕ) →
         IsCutOf g s m → IsTailOf s m (found s m) freed → freed < k → k ≤ found s m → IsLog s k i →
@@ -32,6 +33,9 @@ pub fn logs_end_at_the_last_kept_commit()
     ensures no_more { (g : Geometry) (s : Session) (m : Medium) (p : ℕ) →
         IsCutOf g s m → IsPlace s.ring p →
         s.format.header (disk_of m.image (s.journal + p)) ≢ Commits (s.sequence + found s m) }
+    ensures none_later { (g : Geometry) (s : Session) (m : Medium) (p sequence : ℕ) →
+        IsCutOf g s m → IsPlace s.ring p → s.sequence + found s m ≤ sequence →
+        s.format.header (disk_of m.image (s.journal + p)) ≢ Commits sequence }
     ensures log { (g : Geometry) (s : Session) (m : Medium) →
         IsCutOf g s m → (freed : ℕ) × IsLogFrom s m (found s m) freed }
 {}

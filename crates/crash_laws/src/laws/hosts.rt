@@ -15,7 +15,7 @@ ghost use Rattle.crash_laws.specs.Ordering.{IsClosedOff};
 ghost use Rattle.crash_laws.specs.laws.PageClauses.{NewPageClause, CommitPagesClause};
 ghost use Rattle.crash_laws.specs.PageRules.{place_at};
 ghost use Rattle.crash_laws.specs.laws.Plans.{PlanFacts, IsCommitting};
-ghost use Rattle.crash_laws.specs.Rules.{CommitOrder};
+ghost use Rattle.crash_laws.specs.Rules.{CommitOrder, IsOlder};
 ghost use Rattle.crash_laws.specs.Session.{Session, HasNote, IsCommit, image_of};
 ghost use Rattle.crash_laws.specs.laws.Submitting.{Submitting, after};
 ghost use Rattle.crash_laws.specs.Volumes.{WalkEnd};
@@ -55,7 +55,7 @@ pub fn plans_have_the_volume_as_image()
     ensures logged { (g : Geometry) (h : History WalkEnd) (s : Session) (host : Host) (n b : ℕ) →
         HasTrees h → CommitOrder s → HostFacts (walk_volume g) h s host n → PlanFacts (walk_volume g) h s host → n + 1 ≡ host.running →
         In b (blocks_read (image_of s host.running) (walk_volume g)) →
-        In b s.reserved ⊎ ((x : List ℕ) × (mark_in (transactions_from s.transactions 1 host.running) b ≡ Set x)) }
+        IsOlder s host.running b ⊎ ((x : List ℕ) × (mark_in (transactions_from s.transactions 1 host.running) b ≡ Set x)) }
     ensures bodies { (g : Geometry) (h : History WalkEnd) (s : Session) (host : Host) (n b : ℕ) (x : List ℕ) →
         HasTrees h → CommitOrder s → HostFacts (walk_volume g) h s host n → PlanFacts (walk_volume g) h s host → n + 1 ≡ host.running →
         mark_in (transactions_from s.transactions 1 host.running) b ≡ Set x → host.metadata b ≡ true }
@@ -82,7 +82,7 @@ pub fn commit_blocks_meet_their_clause()
     ensures clause { (g : Geometry) (h : History WalkEnd) (p : Submitting) (host : Host) (n : ℕ) →
         HasTrees h → HostFacts (walk_volume g) h p.session host n →
         ((k : ℕ) → k < host.running → p.transactions k ≡ p.session.transactions k) → n + 2 ≡ host.running →
-        ((f i : ℕ) → h.changes (host.running - 1) f ≡ true → h.maps (h.cut (host.running - 1)) f i ≡ true →
+        ((f i : ℕ) → h.changes (host.running - 1) f ≡ true → h.maps (h.cut (host.running - 1)) f i ≡ true → 1 ≤ last_write h f i (h.cut (host.running - 1)) →
         (o : ℕ) × HasNote p.session o (Page f i (last_write h f i (h.cut (host.running - 1)))) × IsOrdered p.session.requests o × IsClosedOff p.session.requests o) →
         IsCommitting (walk_volume g) h p.session (host.running - 1) →
         CommitPagesClause (walk_volume g) h p (host.running - 1) }

@@ -1,5 +1,5 @@
 //! Laws of the order rules: where they begin, how requests and longer histories keep them, and that they matter.
-ghost use Rattle.std.specs.Prelude.{◌≡◌, ◌≢◌, ℕ, ◌≤◌, [], List};
+ghost use Rattle.std.specs.Prelude.{◌≡◌, ◌≢◌, ℕ, ◌≤◌, ◌⊎◌, [], List};
 ghost use Rattle.blk_base.specs.Members.{In};
 ghost use Rattle.order_model.specs.declared.completion.Completion.{Completion};
 ghost use Rattle.order_model.specs.declared.note.Note.TheVariants.{Page, Commit};
@@ -17,7 +17,7 @@ ghost use Rattle.crash_laws.specs.laws.Extending.{Extends};
 ghost use Rattle.crash_laws.specs.Found.{found};
 ghost use Rattle.crash_laws.specs.History.{History, HasTrees};
 ghost use Rattle.crash_laws.specs.laws.PageClauses.{PageClause};
-ghost use Rattle.crash_laws.specs.PageRules.{PageOrder, DataBeforeCommit};
+ghost use Rattle.crash_laws.specs.PageRules.{HasOpened, PageOrder, DataBeforeCommit};
 ghost use Rattle.crash_laws.specs.PromiseRules.{BegunCall, Covers, CoversEntry, AreHeld, KeepsBarrier, KeepsSync};
 ghost use Rattle.crash_laws.specs.Recovery.{recovered_disk, HasVersion};
 ghost use Rattle.crash_laws.specs.laws.Requests.{IsPageRequest, IsFlushRequest, IsHomeRequest, IsSuperRequest, IsPartRequest, IsCommitRequest};
@@ -31,10 +31,10 @@ ghost use Rattle.crash_laws.specs.Volumes.{WalkEnd, HasTreeOf, HasTreesOf};
 pub fn rules_hold_at_the_start()
     ensures order { (g : Geometry) (s : Session) →
         s.notes ≡ [] → s.requests ≡ [] → 1 ≤ s.ring.first → IsPlace s.ring s.head → BaseImage s →
-        ((b : ℕ) → In b (blocks_read (disk_of s.base) (walk_volume g)) → In b s.reserved) →
+        ((b : ℕ) → In b (blocks_read (disk_of s.base) (walk_volume g)) → In b s.reserved ⊎ In b s.freeable) →
         OrderRules (walk_volume g) s }
     ensures pages { (g : Geometry) (h : History WalkEnd) (s : Session) →
-        s.notes ≡ [] → HasTrees h → PageOrder (walk_volume g) h s }
+        s.notes ≡ [] → HasOpened (walk_volume g) h s → PageOrder (walk_volume g) h s }
 {}
 
 /// A law, which does nothing when it is called: a request that is submitted keeps each rule, where it meets the

@@ -10,6 +10,7 @@ ghost use Rattle.tree_model.specs.declared.call.Call.{Call};
 ghost use Rattle.tree_model.specs.declared.call.Reply.{Reply};
 ghost use Rattle.tree_model.specs.declared.call.Room.{Room};
 ghost use Rattle.tree_model.specs.Calls.{Tree, tree_after};
+ghost use Rattle.tree_model.specs.Plain.{IsPlain, AreBornBefore};
 ghost use Rattle.tree_model.specs.Rooted.{IsRooted};
 ghost use Rattle.volume_ops.specs.Volume.{disk_of};
 ghost use Rattle.crash_laws.specs.laws.Extending.{Extends};
@@ -25,9 +26,11 @@ ghost use Rattle.crash_laws.specs.Volumes.{WalkEnd};
 /// A law, which does nothing when it is called: what the laws ask of a history holds of the calls of every session on
 /// real trees, and each file of a tree has a place in each volume whose tree is alike, by whichever of its paths.
 pub fn calls_on_trees_make_a_history()
-    ensures trees { (room : Room) (width : ℕ) (events : List Event) (cut : ℕ → ℕ) (place : ℕ → WalkEnd → ℕ → ℕ → ℕ) →
-        AreCuts cut → HasTrees (history_of room width events cut place) }
-    ensures rooted { (room : Room) (width : ℕ) (events : List Event) (n : ℕ) → IsRooted (tree_up_to room width events n) }
+    ensures trees { (room : Room) (opened : Tree) (first : ℕ) → IsPlain opened → AreBornBefore (first + 1) opened →
+        (events : List Event) (cut : ℕ → ℕ) (place : ℕ → WalkEnd → ℕ → ℕ → ℕ) →
+        AreCuts cut → HasTrees (history_of room opened first events cut place) }
+    ensures rooted { (room : Room) (opened : Tree) (first : ℕ) → IsPlain opened → AreBornBefore (first + 1) opened →
+        (events : List Event) (n : ℕ) → IsRooted (tree_up_to room opened first events n) }
     ensures places { (g : Geometry) (tree : Tree) → IsRooted tree →
         (place : WalkEnd → ℕ → ℕ → ℕ) × IsPlaceIn g tree place }
 {}
@@ -47,29 +50,29 @@ pub fn sentences_follow_from_the_rules()
 /// A law, which does nothing when it is called: the empty history is legal, one event more keeps it legal where it owes
 /// what it has to, and tells the laws the same of all entries before.
 pub fn histories_of_calls_may_grow()
-    ensures start { (room : Room) (width : ℕ) (programs : ℕ → List Call) → IsLegal room width programs [] }
-    ensures legal { (room : Room) (width : ℕ) (programs : ℕ → List Call) (events : List Event) (e : Event) →
-        IsLegal room width programs events → EventClause room width programs events e →
-        IsLegal room width programs (events ++ e ∷ []) }
-    ensures extends { (room : Room) (width : ℕ) (events more : List Event) (cut new_cut : ℕ → ℕ) (place : ℕ → WalkEnd → ℕ → ℕ → ℕ) (s : Session) →
+    ensures start { (room : Room) (opened : Tree) (first : ℕ) (programs : ℕ → List Call) → IsLegal room opened first programs [] }
+    ensures legal { (room : Room) (opened : Tree) (first : ℕ) (programs : ℕ → List Call) (events : List Event) (e : Event) →
+        IsLegal room opened first programs events → EventClause room opened first programs events e →
+        IsLegal room opened first programs (events ++ e ∷ []) }
+    ensures extends { (room : Room) (opened : Tree) (first : ℕ) (events more : List Event) (cut new_cut : ℕ → ℕ) (place : ℕ → WalkEnd → ℕ → ℕ → ℕ) (s : Session) →
         AreCuts cut → ((j k : ℕ) → IsSubmitted s k → j ≤ k → new_cut j ≡ cut j) →
         ((k : ℕ) → IsSubmitted s k → cut k ≤ length events) →
         ((o f i v : ℕ) → HasNote s o (Page f i v) → v ≤ length events) →
-        Extends (history_of room width events cut place) (history_of room width (events ++ more) new_cut place) s (length events) }
+        Extends (history_of room opened first events cut place) (history_of room opened first (events ++ more) new_cut place) s (length events) }
 {}
 
 /// A law, which does nothing when it is called: the tree changes by what a call does, where the call ends at once with the
 /// tree's reply; and nowhere else: not where a call begins, where one that had begun ends, or where one is turned away.
 pub fn trees_change_by_calls_that_are_done()
-    ensures done { (room : Room) (width : ℕ) (events : List Event) (i t : ℕ) (c : Call) (r : Reply) →
+    ensures done { (room : Room) (opened : Tree) (first : ℕ) (events : List Event) (i t : ℕ) (c : Call) (r : Reply) →
         slice_get events i ≡ Some (End t c r) → has_begun t false (take i events) ≡ false → is_turned_away r ≡ false →
-        tree_up_to room width events (i + 1) ≡ tree_after room (tree_up_to room width events i) (i + 1) c }
-    ensures turned_away { (room : Room) (width : ℕ) (events : List Event) (i t : ℕ) (c : Call) (r : Reply) →
+        tree_up_to room opened first events (i + 1) ≡ tree_after room (tree_up_to room opened first events i) (first + (i + 1)) c }
+    ensures turned_away { (room : Room) (opened : Tree) (first : ℕ) (events : List Event) (i t : ℕ) (c : Call) (r : Reply) →
         slice_get events i ≡ Some (End t c r) → is_turned_away r ≡ true →
-        tree_up_to room width events (i + 1) ≡ tree_up_to room width events i }
-    ensures waited { (room : Room) (width : ℕ) (events : List Event) (i t : ℕ) (c : Call) (r : Reply) →
+        tree_up_to room opened first events (i + 1) ≡ tree_up_to room opened first events i }
+    ensures waited { (room : Room) (opened : Tree) (first : ℕ) (events : List Event) (i t : ℕ) (c : Call) (r : Reply) →
         slice_get events i ≡ Some (End t c r) → has_begun t false (take i events) ≡ true →
-        tree_up_to room width events (i + 1) ≡ tree_up_to room width events i }
-    ensures begins { (room : Room) (width : ℕ) (events : List Event) (i t : ℕ) (c : Call) →
-        slice_get events i ≡ Some (Begin t c) → tree_up_to room width events (i + 1) ≡ tree_up_to room width events i }
+        tree_up_to room opened first events (i + 1) ≡ tree_up_to room opened first events i }
+    ensures begins { (room : Room) (opened : Tree) (first : ℕ) (events : List Event) (i t : ℕ) (c : Call) →
+        slice_get events i ≡ Some (Begin t c) → tree_up_to room opened first events (i + 1) ≡ tree_up_to room opened first events i }
 {}

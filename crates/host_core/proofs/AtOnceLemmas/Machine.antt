@@ -1,5 +1,5 @@
 -- A step of a plain call on its parts is that of the host.
-use Rattle.std.proofs.Common.{◌≡◌, ℕ, ◌+◌, Bool, true, false, if◌then◌else◌, List, length, filter, Option, Some, None, nat_lt, refl, sym, ap}
+use Rattle.std.proofs.Common.{◌≡◌, ℕ, ◌+◌, ◌∙◌, arith, Bool, true, false, if◌then◌else◌, List, length, filter, Option, Some, None, nat_lt, refl, sym, ap}
 use Rattle.minix_layout.specs.declared.division.Geometry.{Geometry}
 use Rattle.tree_model.specs.declared.call.Call.{Call}
 use Rattle.tree_model.specs.declared.call.Reply.{Reply}
@@ -86,4 +86,6 @@ module _ (g : Geometry) (u : Setup) (s : Host VolumeNow Call Reply) (t : ℕ) (c
                 machine.end_with m u (machine.change m u s c a) t c rest (state.Answered a.reply)
           ]
       by (Some cause) = hinders_is cause
-      by None = does_is
+      by None =
+          let e : n ≡ 0 + n = omega arith in
+          does_is ∙ ap (λ x. machine.end_with m u (machine.change m u s c (done_as s.volume x k c)) t c rest (state.Answered (done_as s.volume x k c).reply)) e

@@ -32,9 +32,9 @@ use Rattle.host_machine.specs.runs.laws.Written.{AreWritten}
 
 -- ---- a promise reads requests and notes alone
 
-module _ (base : List (List ℕ)) (format : Format) (journal : ℕ) (ring : Ring) (head sequence : ℕ) (transactions : ℕ → Transaction) (reserved : List ℕ) where
+module _ (base : List (List ℕ)) (format : Format) (journal : ℕ) (ring : Ring) (head sequence : ℕ) (transactions : ℕ → Transaction) (reserved freeable : List ℕ) where
   abbrev other : Session → Session
-  other s = record { base = base; requests = s.requests; notes = s.notes; format = format; journal = journal; ring = ring; head = head; sequence = sequence; transactions = transactions; reserved = reserved }
+  other s = record { base = base; requests = s.requests; notes = s.notes; format = format; journal = journal; ring = ring; head = head; sequence = sequence; transactions = transactions; reserved = reserved; freeable = freeable }
 
   held_as : {A : Type 0} {h : History A} {s : Session} {Good : ℕ → Type 0} {Pair : ℕ → ℕ → ℕ → Type 0} {Metadata : ℕ → Type 0} → AreHeld h s Good Pair Metadata → AreHeld h (other s) Good Pair Metadata
   held_as x = record {
@@ -68,6 +68,7 @@ module _ {A T V C R : Type 0} {o : Over A T V C R} {Stands : V → T → Type 0}
     sequence = o.setup.sequence;
     transactions = transaction_of [];
     reserved = o.reserved;
+    freeable = o.freeable;
   }
 
   module _ (ring : Ring) (e : ℕ) (b : Begun) where
@@ -85,8 +86,8 @@ module _ {A T V C R : Type 0} {o : Over A T V C R} {Stands : V → T → Type 0}
         let longer = length-append s.history (entry ∷ []) in
         let le = ok.1 in
         subst OkAt q (
-          ok_as o.base o.format o.setup.journal ring 0 o.setup.sequence (transaction_of []) o.reserved
-              (ok_grows ext ok.1 (ok_as sess.base sess.format sess.journal sess.ring sess.head sess.sequence sess.transactions sess.reserved ok.0)),
+          ok_as o.base o.format o.setup.journal ring 0 o.setup.sequence (transaction_of []) o.reserved o.freeable
+              (ok_grows ext ok.1 (ok_as sess.base sess.format sess.journal sess.ring sess.head sess.sequence sess.transactions sess.reserved sess.freeable ok.0)),
           omega arith,
         )
     moves s has t (Cuts q) ok =
@@ -107,7 +108,7 @@ module _ {A T V C R : Type 0} {o : Over A T V C R} {Stands : V → T → Type 0}
         ok c rest e =
             let has = kept.rules in
             let sess = session o Stands [] s in
-            ok_as sess.base sess.format sess.journal sess.ring sess.head sess.sequence sess.transactions sess.reserved
+            ok_as sess.base sess.format sess.journal sess.ring sess.head sess.sequence sess.transactions sess.reserved sess.freeable
             (begun_ok contract has.0 has.1 s has.2 has.3 has.4 t c rest (slice_get-length s.threads t th at) th b at begun full e)
 
         of_calls : (calls : List C) → th.calls ≡ calls → (step_thread o.model o.setup full s t (Some b) calls).step ≡ outcomes.Done o.model.ok → IsAnswered o Stands s (length s.history + 1) b
@@ -133,6 +134,6 @@ module _ {A T V C R : Type 0} {o : Over A T V C R} {Stands : V → T → Type 0}
     answer_stays s (event ∷ es) e b kept fits begun ok =
         let ring = s.journal.ring.places in
         let next = stepped o s event in
-        let x = moves ring e b s kept.rules (trace_of next) (moved o s kept.begun event).1 (ok_as o.base o.format o.setup.journal ring 0 o.setup.sequence (transaction_of []) o.reserved ok, begun) in
+        let x = moves ring e b s kept.rules (trace_of next) (moved o s kept.begun event).1 (ok_as o.base o.format o.setup.journal ring 0 o.setup.sequence (transaction_of []) o.reserved o.freeable ok, begun) in
         let sess = session o Stands [] next in
-        answer_stays next es e b (step_keeps contract written blocks s event kept fits) (step_fits contract written blocks s event kept fits) x.1 (ok_as sess.base sess.format sess.journal sess.ring sess.head sess.sequence sess.transactions sess.reserved x.0)
+        answer_stays next es e b (step_keeps contract written blocks s event kept fits) (step_fits contract written blocks s event kept fits) x.1 (ok_as sess.base sess.format sess.journal sess.ring sess.head sess.sequence sess.transactions sess.reserved sess.freeable x.0)

@@ -7,7 +7,7 @@ use Rattle.std.specs.List.{list_any}
 use Rattle.std.specs.Prelude.{◌≡◌, ℕ, zero, suc, ◌+◌, ◌-◌, ◌<◌, ◌≤◌, ◌==◌, ◌⊎◌, Bool, true, false, List, [], ◌∷◌, length, Option, Some, None, slice_get, if◌then◌else◌, refl}
 use Rattle.blk_base.specs.Members.{In}
 use Rattle.blk_base.specs.laws.Members.{list_any-In}
-use Rattle.order_model.specs.declared.note.Note.TheVariants.{Commit}
+use Rattle.order_model.specs.declared.note.Note.TheVariants.{Page, Commit}
 use Rattle.order_model.specs.declared.note.Note.{Note}
 use Rattle.crash_laws.specs.laws.CallFacts.{IsDone}
 use Rattle.crash_laws.specs.History.{History, HasTrees}
@@ -163,5 +163,5 @@ module _ {A : Type 0} {h : History A} {s : Session} {now r N : ℕ} (b : Begun) 
       (cases_lt 0 N) in
       ⊎_elim
       (λ gone. let hi = gone.within in let lo = gone.later in omega arith)
-      (λ x. false≢true (sym (trees.empty f i) ∙ ap (λ m. h.maps m f i) (sym zero_cut) ∙ x.1))
+      (λ x. nothing_put s.notes x.0.place (Page f i x.0.version) x.0.note refl none)
       (done_at_cut h s trees now numbers.versions f i n (h.cut N) (numbers.cuts N) c.2 (omega arith) (quiet f i n c) (done f i n c))

@@ -16,7 +16,7 @@ use Rattle.crash_laws.specs.History.{History, IsUnmapped, HasTrees}
 use Rattle.crash_laws.specs.PromiseRules.{AreHeld}
 use Rattle.crash_laws.specs.Session.{Session, IsCommit}
 use Rattle.crash_laws.specs.laws.Submitting.{Submitting, after}
-use Rattle.host_machine.proofs.ChangeSteps.{IsEntry}
+use Rattle.host_machine.proofs.ChangeSteps.{IsEntry, last_write_stays}
 use Rattle.host_machine.proofs.PageMaps.{dropped-left, written-cases}
 use Rattle.host_machine.specs.Host.{dropped_pages, written_pages}
 use Rattle.host_machine.specs.Model.{Model, FileBlock}
@@ -52,7 +52,7 @@ module _ {T V C R : Type 0} (M : Model T V C R) (u : Setup) {A : Type 0} {progra
 
       by : (f i : ℕ) (p : CachedPage) → page_at pages f i ≡ Some p → is_unsent p.state ≡ true → (z : Option ℕ) → new.zone f i ≡ z
           → ((q : CachedPage) × (page_at pages_now f i ≡ Some q) × (is_unsent q.state ≡ true)) ⊎ IsUnmapped more f i (now + 1)
-      by f i p there unsent (Some z) at = let q = mapped_now.all f i z at in inl (q.0, q.1, of_written f i p q.0 there unsent q.1)
+      by f i p there unsent (Some z) at = let was = mapped.cached f i p there in let version = was.version in let pos = was.written in let q = mapped_now.all f i z at (last_write_stays entry numbers f i (omega arith)) in inl (q.0, q.1, of_written f i p q.0 there unsent q.1)
       by f i p there unsent None at =
           let was = before.mapped f i p.block (mapped.cached f i p there).zone in
           let e : now + 1 - 1 ≡ now = omega arith in

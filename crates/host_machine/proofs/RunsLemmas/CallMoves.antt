@@ -1,9 +1,9 @@
 -- What a begun call's own steps give: its beginning, its walk along its list, and the pages that are sent.
 use Rattle.std.proofs.Common.{sym, ap, subst, ◌∙◌, inl, inr, ⊎_elim, arith, eq-eqb}
-use Rattle.std.proofs.lemmas.Bool.{cases_Bool, cond-true, cond-false, false≢true}
+use Rattle.std.proofs.lemmas.Bool.{cases_Bool, cases_lt, cond-true, cond-false, false≢true}
 use Rattle.std.proofs.lemmas.Option.{none-some, same_Some}
 use Rattle.std.specs.List.{filter}
-use Rattle.std.specs.Prelude.{◌≡◌, ℕ, ◌≤◌, ◌==◌, ◌&&◌, ◌||◌, ◌⊎◌, Bool, true, false, List, [], ◌∷◌, map, Option, Some, None, IsTrue, if◌then◌else◌, refl}
+use Rattle.std.specs.Prelude.{◌≡◌, ℕ, ◌<◌, ◌≤◌, ◌==◌, ◌&&◌, ◌||◌, ◌⊎◌, Bool, true, false, List, [], ◌∷◌, map, Option, Some, None, IsTrue, if◌then◌else◌, refl}
 use Rattle.blk_base.specs.Members.{In}
 use Rattle.blk_base.specs.laws.Members.{filter-In, map-In, slice_get-length}
 use Rattle.order_model.specs.OrderClosed.{is_flush}
@@ -132,7 +132,9 @@ module _ {A : Type 0} {program : Reads A} {h : History A} {s : Session} {now : �
         (λ gone. inl (inr gone))
         (λ here.
         let z = plain.there f i here in
-        let p = mapped.all f i z.0 z.1 in
+        let last = last_write_above h f i n now c.2 (omega arith) in
+        let pos : 1 ≤ n = ⊎_elim (λ x. x) (λ x. let e : n ≡ 0 = omega arith in absurd (false≢true (sym (trees.unwritten f i) ∙ ap (λ m. h.writes m f i) (sym e) ∙ c.2))) (cases_lt 0 n) in
+        let p = mapped.all f i z.0 z.1 (omega arith) in
         of_page f i n c p.0 p.1 (mapped.cached f i p.0 p.1).version (p.0.state) refl)
         (mapped_or_gone h trees f i n now c.2 (omega arith));
     barrier = λ e. absurd (false≢true (sym no_barrier ∙ e));

@@ -164,6 +164,7 @@ module _ {A T V C R : Type 0} {o : Over A T V C R} {Stands : V → T → Type 0}
       logged = λ k c e read. absurd (no_commit k (sym note ∙ e));
       home = clause.home;
       page = λ f i v z k x e put set c. absurd (no_page f i v (sym note ∙ e));
+      freed = λ f i v z e put old. absurd (no_page f i v (sym note ∙ e));
     }
       where
         no_commit : (k : ℕ) → notes.Home b ≡ notes.Commit k → ⊥

@@ -1,6 +1,6 @@
 -- Runs of the host: what holds where it is opened holds after every step.
 use Rattle.std.proofs.Common.{sym, subst, ⊎_elim, arith}
-use Rattle.std.specs.Prelude.{ℕ, ◌+◌, ◌-◌, ◌<◌, ◌≤◌, List, [], ◌∷◌, refl}
+use Rattle.std.specs.Prelude.{ℕ, ◌+◌, ◌-◌, ◌<◌, ◌≤◌, ◌⊎◌, List, [], ◌∷◌, refl}
 use Rattle.blk_base.specs.Members.{In}
 use Rattle.blk_base.specs.laws.Members.{slice_get-In}
 use Rattle.log_model.specs.Ring.{Ring}
@@ -26,7 +26,7 @@ use Rattle.host_machine.specs.runs.laws.Written.{IsWord, AreWritten}
 module _ {A T V C R : Type 0} {o : Over A T V C R} {Stands : V → T → Type 0} (contract : Contract o Stands) where
   pub opened_has : (v : V) (ring : LogRing) (zones limit : ℕ) (programs : List (List C)) → IsOpened o Stands v ring zones limit programs → IsSound contract (opened o.model o.setup v ring zones limit programs)
   opened_has v ring zones limit programs at =
-      let k = opened_keeps contract v ring zones limit programs at.stands at.metadata at.log.first at.log.place at.base walked in
+      let k = opened_keeps contract v ring zones limit programs at.stands at.metadata at.freeable at.pages at.log.first at.log.place at.base walked in
       record {
         rules = (
           [],
@@ -47,7 +47,7 @@ module _ {A T V C R : Type 0} {o : Over A T V C R} {Stands : V → T → Type 0}
       same : AgreeOn (blocks_read (o.model.bytes v) o.program) (o.model.bytes v) (disk_of o.base)
       same b i = sym ((at.metadata b ((contract.plain v o.model.root at.stands).walk b i)).1)
 
-      walked : (b : ℕ) → In b (blocks_read (disk_of o.base) o.program) → In b o.reserved
+      walked : (b : ℕ) → In b (blocks_read (disk_of o.base) o.program) → In b o.reserved ⊎ In b o.freeable
       walked b i = (at.metadata b ((contract.plain v o.model.root at.stands).walk b (subst (In b) (blocks_read-agree (o.model.bytes v) (disk_of o.base) o.program same) i))).0
 
   module _ (written : AreWritten o.format o.setup.writers) (blocks : HasBlocks o Stands) where

@@ -43,7 +43,7 @@ module _ {A T V C R : Type 0} {o : Over A T V C R} {Stands : V → T → Type 0}
           ⊎_elim (λ e. omega arith) (λ e. omega arith) numbers
 
   answered : (e : ℕ) (b : Begun) → IsAnswered o Stands s e b → KeepsOk h sess s.journal.flush.taken e b
-  answered e b ok = ok_as sess.base sess.format sess.journal sess.ring sess.head sess.sequence sess.transactions sess.reserved ok
+  answered e b ok = ok_as sess.base sess.format sess.journal sess.ring sess.head sess.sequence sess.transactions sess.reserved sess.freeable ok
 
   pub sentences : KeepsSentences o Stands s txs
   sentences = record {

@@ -14,13 +14,11 @@ use Rattle.host_machine.specs.State.{Entry, Host, Setup}
 use Rattle.commit_actor.specs.Journal.{Plan, Phase, Idle, Closing, Committing}
 use Rattle.flush_actor.specs.Kinds.{is_begun}
 use Rattle.host_machine.specs.Views.{cut_of, tree_after, history_of, waits_for, session_of}
-use Rattle.host_machine.specs.laws.Facts.{View, Numbers, Present, Bodies, PlanRevokes, KeepsPlaces, PagesMapped, PagesSent, ZoneHistory, Altered, OnItsWay}
+use Rattle.host_machine.specs.laws.Facts.{View, Numbers, Present, Bodies, PlanRevokes, KeepsPlaces, PagesMapped, PagesSent, ZoneHistory, OpenedZones, Altered, OnItsWay}
 use Rattle.host_machine.specs.laws.PlanNotes.{IsRestOf, BarrierAhead}
 
 -- what the tree model keeps
 pub record TreeLaws {T V C R : Type 0} (M : Model T V C R) : Type 0 where
-  -- the tree that is opened has no file
-  pub empty : (f i : ℕ) → M.maps M.root f i ≡ false
   -- only a write maps a block, and it leaves it mapped
   pub mapped : (t : T) (n : ℕ) (c : C) (f i : ℕ) → M.maps t f i ≡ false → M.maps (M.call t n c) f i ≡ true → M.writes t c f i ≡ true
   pub written : (t : T) (n : ℕ) (c : C) (f i : ℕ) → M.writes t c f i ≡ true → M.maps (M.call t n c) f i ≡ true
@@ -32,7 +30,8 @@ abbrev pub StandsAs : {T V : Type 0} → (V → Option T) → V → T → Type 0
 StandsAs tree v t = tree v ≡ Some t
 
 -- what a session is over: the tree model and the volume; the walk through an image, and how it finds the block
--- of a page; the image that the session began with, how journal blocks are read, and its metadata
+-- of a page; the image that the session began with, how journal blocks are read, and its metadata: what stays metadata,
+-- and the rest, which calls may give up
 pub record Over (A T V C R : Type 0) : Type 0 where
   pub model : Model T V C R
   pub setup : Setup
@@ -41,6 +40,7 @@ pub record Over (A T V C R : Type 0) : Type 0 where
   pub base : List (List ℕ)
   pub format : Format
   pub reserved : List ℕ
+  pub freeable : List ℕ
 
 module _ {A T V C R : Type 0} (o : Over A T V C R) where
   abbrev pub view_of : V → View
@@ -151,12 +151,13 @@ module _ {A T V C R : Type 0} (o : Over A T V C R) where
         pub rising : IsRising pages
         pub sent : PagesSent s pages
         pub zones : ZoneHistory noted_history s (length es) N (view_of v)
+        pub opened : OpenedZones o.program noted_history s (length es) r N (view_of v) revoked
         pub altered : Altered noted_history s r (view_of v) touched changed
         pub in_phase : InPhase s r N phase
 
     -- of a host; `txs` are the bodies and revokes of its closed transactions, and N of them are submitted
     abbrev pub session : List Transaction → Host V C R → Session
-    session txs s = session_of o.model o.setup o.base o.format o.reserved txs s
+    session txs s = session_of o.model o.setup o.base o.format o.reserved o.freeable txs s
 
     abbrev pub KeepsImages : Host V C R → List Transaction → ℕ → Type 0
     KeepsImages s txs N =

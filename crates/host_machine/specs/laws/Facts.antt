@@ -4,13 +4,14 @@ use Rattle.std.specs.Prelude.{◌≡◌, ℕ, ◌+◌, ◌-◌, ◌<◌, ◌≤�
 use Rattle.blk_base.specs.Members.{In}
 use Rattle.order_model.specs.OrderClosed.{IsOrdered}
 use Rattle.order_model.specs.declared.note.Note.TheVariants.{Page}
-use Rattle.log_model.specs.Marks.{Set, mark_in, transactions_from}
+use Rattle.log_model.specs.Marks.{Clear, Set, mark_in, transactions_from}
 use Rattle.volume_ops.specs.Reads.{Reads, answer, blocks_read}
 use Rattle.page_cache.specs.Pages.{page_at}
 use Rattle.page_cache.specs.declared.cached_page.CachedPage.{CachedPage}
 use Rattle.page_cache.specs.declared.cached_page.PageState.TheVariants.{Clean, Firm}
 use Rattle.crash_laws.specs.History.{History, IsUnmapped, Calm, last_write}
 use Rattle.crash_laws.specs.PageRules.{IsPageTo, place_at}
+use Rattle.crash_laws.specs.Rules.{IsOlder}
 use Rattle.crash_laws.specs.Session.{Session, HasNote, IsCommit, image_of}
 use Rattle.host_machine.specs.Model.{FileBlock, Touched}
 
@@ -74,7 +75,7 @@ pub record Numbers {A : Type 0} (h : History A) (s : Session) (now r N : ℕ) : 
 -- Each block of metadata is among the running bodies, or as in the image of the last closed transaction, where
 -- it was logged or is the base image's.
 pub record Present (s : Session) (r : ℕ) (v : View) (touched : List ℕ) : Type 0 where
-  pub present : (b : ℕ) → v.metadata b ≡ true → In b touched ⊎ ((v.bytes b ≡ image_of s (r - 1) b) × (In b s.reserved ⊎ ((x : List ℕ) × (mark_in (transactions_from s.transactions 1 (r - 1)) b ≡ Set x))))
+  pub present : (b : ℕ) → v.metadata b ≡ true → In b touched ⊎ ((v.bytes b ≡ image_of s (r - 1) b) × (IsOlder s (r - 1) b ⊎ ((x : List ℕ) × (mark_in (transactions_from s.transactions 1 (r - 1)) b ≡ Set x))))
 
 -- A block with a body in that image is metadata, or the running transaction revokes it. Running bodies lie on
 -- metadata; running revokes wait for the running transaction, and are none of the base image's metadata.
@@ -100,10 +101,11 @@ pub record IsCached {A : Type 0} (h : History A) (now : ℕ) (v : View) (f i : �
   pub zone : v.zone f i ≡ Some p.block
   pub body : p.body ≡ h.content f i p.version
   pub version : p.version ≡ last_write h f i now
+  pub written : 1 ≤ p.version
 
 pub record PagesMapped {A : Type 0} (h : History A) (now : ℕ) (v : View) (pages : List CachedPage) : Type 0 where
   pub cached : (f i : ℕ) (p : CachedPage) → page_at pages f i ≡ Some p → IsCached h now v f i p
-  pub all : (f i z : ℕ) → v.zone f i ≡ Some z → (p : CachedPage) × (page_at pages f i ≡ Some p)
+  pub all : (f i z : ℕ) → v.zone f i ≡ Some z → 1 ≤ last_write h f i now → (p : CachedPage) × (page_at pages f i ≡ Some p)
 
 -- No page is Clean, since none was there when the session was opened. A Firm page was sent order-preserving as
 -- it is, and no request has a later version.
@@ -132,6 +134,30 @@ pub record IsDead {A : Type 0} (h : History A) (s : Session) (now N : ℕ) (v : 
 pub record ZoneHistory {A : Type 0} (h : History A) (s : Session) (now N : ℕ) (v : View) : Type 0 where
   pub live_or_dead : (o f i w z : ℕ) → IsPageTo s o f i w z → IsLive h now v f i w z ⊎ IsDead h s now N v o f i w z
 
+-- The same of a block of the tree that was opened, at block z.
+pub record IsOpenedDead {A : Type 0} (h : History A) (s : Session) (now N : ℕ) (v : View) (f i z : ℕ) : Type 0 where
+  pub k : ℕ
+  pub entry : ℕ
+  pub later : 1 ≤ entry
+  pub within : entry ≤ now
+  pub unmapped : IsUnmapped h f i entry
+  pub of_k : entry ≤ h.cut k
+  pub given_up : ((c : ℕ) × IsCommit s k c) ⊎ ((N < k) × (v.quarantine z ≡ Some k))
+
+-- a closed transaction gave block b up, and it is submitted or the block waits for it
+pub record IsFreed (s : Session) (r N : ℕ) (v : View) (b : ℕ) : Type 0 where
+  pub k : ℕ
+  pub numbered : 1 ≤ k
+  pub closed : k < r
+  pub clear : mark_in (transactions_from s.transactions 1 k) b ≡ Clear
+  pub given_up : (k ≤ N) ⊎ ((N < k) × (v.quarantine b ≡ Some k))
+
+-- Blocks of the tree that was opened are live or dead. What calls may give up of the metadata of the base image is metadata,
+-- or the running transaction revokes it, or one before gave it up.
+pub record OpenedZones {A : Type 0} (program : Reads A) (h : History A) (s : Session) (now r N : ℕ) (v : View) (revoked : List ℕ) : Type 0 where
+  pub pages : (f i : ℕ) → h.maps 0 f i ≡ true → IsLive h now v f i 0 (place_at program h s 0 f i) ⊎ IsOpenedDead h s now N v f i (place_at program h s 0 f i)
+  pub freeable : (b : ℕ) → In b s.freeable → (v.metadata b ≡ true) ⊎ In b revoked ⊎ IsFreed s r N v b
+
 -- A node that the running transaction changed is listed; where a file with a block is, the transaction logs a block
 -- of the base image's metadata, so it is not empty.
 pub record Altered {A : Type 0} (h : History A) (s : Session) (r : ℕ) (v : View) (touched changed : List ℕ) : Type 0 where
@@ -144,8 +170,9 @@ pub record OnItsWay {A : Type 0} (program : Reads A) (h : History A) (s : Sessio
   pub place : (o f i w z : ℕ) → IsPageTo s o f i w z → h.maps (h.cut k) f i ≡ true → Calm h f i w (h.cut k) → Calm h f i (h.cut k) w → z ≡ place_at program h s k f i
   pub logged : (o f i w z : ℕ) (x : List ℕ) → IsPageTo s o f i w z → mark_in (transactions_from s.transactions 1 k) z ≡ Set x → (c : ℕ) × IsCommit s (k - 1) c × (o < c) × (w ≤ h.cut (k - 1))
   pub files : (f i : ℕ) (x : List ℕ) → h.maps (h.cut k) f i ≡ true → mark_in (transactions_from s.transactions 1 k) (place_at program h s k f i) ≡ Set x → ⊥
-  pub walked : (b : ℕ) → In b (blocks_read (image_of s k) program) → In b s.reserved ⊎ ((x : List ℕ) × (mark_in (transactions_from s.transactions 1 k) b ≡ Set x))
+  pub stays : (f i : ℕ) → h.maps 0 f i ≡ true → Calm h f i 0 (h.cut k) → place_at program h s 0 f i ≡ place_at program h s k f i
+  pub walked : (b : ℕ) → In b (blocks_read (image_of s k) program) → IsOlder s k b ⊎ ((x : List ℕ) × (mark_in (transactions_from s.transactions 1 k) b ≡ Set x))
   pub low : (b : ℕ) (x : List ℕ) → mark_in (transactions_from s.transactions 1 k) b ≡ Set x → b < s.journal
   pub own : (b : ℕ) → In b (s.transactions k).revokes → In b s.reserved → ⊥
-  pub sent : (f i : ℕ) → h.changes k f ≡ true → h.maps (h.cut k) f i ≡ true
+  pub sent : (f i : ℕ) → h.changes k f ≡ true → h.maps (h.cut k) f i ≡ true → 1 ≤ last_write h f i (h.cut k)
       → (o : ℕ) × HasNote s o (Page f i (last_write h f i (h.cut k))) × IsOrdered s.requests o × (o < from)

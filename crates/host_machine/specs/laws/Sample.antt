@@ -139,6 +139,7 @@ over = record {
   base = [] ∷ (0 ∷ []) ∷ [];
   format = record { header = λ b. Plain; restore = λ tag b. b; tail = λ b. record { sequence = 0; start = 0 } };
   reserved = 1 ∷ [];
+  freeable = [];
 }
 
 -- the tree is the volume's, and the zone of the file's block does not wait

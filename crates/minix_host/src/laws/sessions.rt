@@ -20,14 +20,14 @@ ghost use Rattle.host_machine.specs.runs.Promises.{IsAnswered};
 ghost use Rattle.host_machine.specs.runs.Runs.{Event, steps};
 ghost use Rattle.host_machine.specs.runs.Flushes.{count, is_sync_begin};
 ghost use Rattle.host_machine.specs.runs.laws.Written.{AreWritten};
-ghost use Rattle.minix_host.specs.Runs.{IsOpenedVolume, HasEmptyJournal, host_after, KeepsSession};
+ghost use Rattle.minix_host.specs.Runs.{IsNewOpening, IsOpenedVolume, HasEmptyJournal, host_after, KeepsSession};
 ghost use Rattle.minix_host.specs.ByteCalls.{ByteCall};
 ghost use Rattle.minix_host.specs.Sessions.{Opening, over, Stands};
 
 use volume_steps::new_volumes_are_in_use;
 
 /// A law, which does nothing when it is called: whatever callers and actors do in a session that was opened on a plain
-/// volume of the root alone, behind which an empty journal lies, the submitted list keeps all order rules; and a power
+/// volume, behind which an empty journal lies, the submitted list keeps all order rules; and a power
 /// cut leaves a volume whose tree is that after a prefix of the calls, with no file block older than its file's last
 /// change asks for, and with all that answered barrier and sync calls promise. Of the journal it asks that its blocks
 /// are read as they are written.
@@ -63,7 +63,7 @@ pub fn journals_are_read_as_written()
 /// A law, which does nothing when it is called: a session can be opened on a new volume of any size, where the image
 /// begins with its blocks.
 pub fn new_volumes_can_be_opened()
-    ensures opened { (s : Opening) → IsSound s.geometry → s.root ≡ s.geometry.first →
+    ensures opened { (s : Opening) → IsNewOpening s → IsSound s.geometry → s.root ≡ s.geometry.first →
         ((b : ℕ) → b < s.geometry.zones → disk_of s.image b ≡ disk_of (new_volume s.geometry).blocks b) →
         IsOpenedVolume s (new_now s.geometry) }
 {

@@ -9,7 +9,7 @@ use Rattle.volume_ops.specs.Volume.{VolumeState, disk_of}
 use Rattle.volume_steps.specs.Now.{VolumeNow, room_of}
 use Rattle.mount_make.specs.Images.{divided, has_journal, mounted, recovered_image, image_tree}
 use Rattle.crash_laws.specs.Found.{IsFound}
-use Rattle.crash_laws.specs.LegalHistory.{IsLegal}
+use Rattle.crash_laws.specs.LegalHistory.{root_alone, IsLegal}
 use Rattle.crash_laws.specs.Recovery.{IsRecovered}
 use Rattle.crash_laws.specs.Session.{Medium}
 use Rattle.flush_actor.specs.Kinds.{is_data}
@@ -40,7 +40,7 @@ pub record HostFacts (s : SessionScript) (h : Host VolumeNow Call Reply) : Type 
   pub causes : HaveCauses kind_of s.header.limit (HadCome (made_session (geometry_of s) s.journal s.wide s.header.limit s.programs) events) h
   -- the history goes by the programs and by the tree of calls
   pub follows : FollowsTree (opening_of s) s.programs h
-  pub legal : IsLegal (room_of (geometry_of s)) s.width (program_of s.programs) (events_in h.history)
+  pub legal : IsLegal (room_of (geometry_of s)) (root_alone s.width) 0 (program_of s.programs) (events_in h.history)
 
 -- What holds of such a host and of a medium that a power cut left: it mounts as the script's volume was divided, its journal
 -- tells how many transactions it has, and it has the tree and the files of these.

@@ -18,7 +18,6 @@ use Rattle.crash_laws.specs.Found.{IsFound}
 use Rattle.crash_laws.specs.Recovery.{IsRecovered}
 use Rattle.log_model.specs.Log.{log_of}
 use Rattle.crash_laws.specs.Headline.{HoldsPrefix}
-use Rattle.crash_laws.specs.LegalHistory.{root_alone}
 use Rattle.crash_laws.specs.Session.{Session, Medium}
 use Rattle.host_machine.specs.State.{Entry, Host}
 use Rattle.host_machine.specs.Views.{cut_of}
@@ -46,8 +45,8 @@ acting_as (e ∷ es) = ap (λ (cs : List (Option Call)). call_of_entry e ∷ cs)
 
 tree_as : (s : Opening) (h : Host VolumeNow ByteCall Reply) (k : ℕ) → tree_behind s (plain_host h) k ≡ tree_after_transactions s h k
 tree_as s h k =
-    ap (λ cs. tree_after_entries (room_of s.geometry) (root_alone s.geometry.width) 0 cs (cut_of h.cuts (length (plain_host h).history) k)) (acting_as h.history)
-    ∙ ap (λ n. tree_after_entries (room_of s.geometry) (root_alone s.geometry.width) 0 (calls_of h.history) (cut_of h.cuts n k)) (length-map h.history (entry_as plain_call))
+    ap (λ cs. tree_after_entries (room_of s.geometry) s.tree.tree s.first cs (cut_of h.cuts (length (plain_host h).history) k)) (acting_as h.history)
+    ∙ ap (λ n. tree_after_entries (room_of s.geometry) s.tree.tree s.first (calls_of h.history) (cut_of h.cuts n k)) (length-map h.history (entry_as plain_call))
 
 -- ---- recovery
 

@@ -23,14 +23,16 @@ use Rattle.volume_ops.specs.laws.ReadsLaws.{err-ok, same_Ok}
 use Rattle.volume_steps.specs.Now.{VolumeNow}
 use Rattle.crash_laws.specs.History.{History, last_write, IsLastChange}
 use Rattle.crash_laws.specs.PromiseRules.{IsLaterKept}
-use Rattle.crash_laws.specs.Recovery.{IsRecovered, HasVersion}
+use Rattle.crash_laws.specs.PageRules.{place_at}
+use Rattle.crash_laws.specs.Recovery.{IsRecovered, IsOf, Sent, Opened, HasVersion}
 use Rattle.crash_laws.specs.Session.{Session, Medium}
 use Rattle.crash_laws.specs.Volumes.{WalkEnd}
 use Rattle.crash_laws.proofs.Histories.{last_change}
 use Rattle.host_machine.specs.State.{Host}
 use Rattle.host_machine.specs.Views.{tree_after}
 use Rattle.minix_host.specs.Paths.{place_in}
-use Rattle.minix_host.specs.PlainTrees.{PlainTree}
+use Rattle.tree_model.proofs.PlainTrees.{new_born}
+use Rattle.minix_host.specs.PlainTrees.{PlainTree, root_tree}
 use Rattle.minix_host.proofs.Numbered.{trees_are}
 use Rattle.mount_make.specs.Images.{FaultPlace, image_fault, divided, fault_in_journal, recovered_from, volume_in, by_journal, by_walk, by_geometry, recovered_by, recovered_image, tree_after as tree_behind_mount, image_tree}
 use Rattle.mount_make.specs.Made.{made_image}
@@ -45,9 +47,15 @@ same_page f i v w e = cc
 
 module _ {A : Type 0} (program : Reads A) (told : History A) (s : Session) (m : Medium) (F f i : ℕ) where
   one_version : (v w : ℕ) (x : HasVersion program told s m F f i v) (y : HasVersion program told s m F f i w) → x.version ≡ y.version
-  one_version v w x y =
-      let same : x.origin ≡ y.origin = same_Some x.origin y.origin (same_Some (Some x.origin) (Some y.origin) (sym x.held ∙ y.held)) in
-      same_page f i x.version y.version (same_Some (Page f i x.version) (Page f i y.version) (sym x.note ∙ (ap (λ o. slice_get s.notes o) same ∙ y.note)))
+  one_version v w x y = by x.source y.source
+    where
+      by : {a b : ℕ} → IsOf s m f i a (place_at program told s F f i) → IsOf s m f i b (place_at program told s F f i) → a ≡ b
+      by {a = a} {b = b} (Sent o note held) (Sent q other there) =
+          let same : o ≡ q = same_Some o q (same_Some (Some o) (Some q) (sym held ∙ there)) in
+          same_page f i a b (same_Some (Page f i a) (Page f i b) (sym note ∙ (ap (λ o. slice_get s.notes o) same ∙ other)))
+      by (Sent o note held) (Opened e none) = absurd (none o held)
+      by (Opened e none) (Sent q other there) = absurd (none q there)
+      by (Opened e none) (Opened f other) = e ∙ sym f
 
 -- ---- the volume that is mounted
 
@@ -101,7 +109,7 @@ module _ (g : Geometry) (journal : ℕ) (wide : Bool) (closed : List Transaction
 
   -- the history is read over the tree that is shown
   behind : after.tree ≡ kept_tree g journal wide h m
-  behind = trees_are (λ (c : Call). c) g h.history (told.cut kept)
+  behind = trees_are (λ (c : Call). c) g (root_tree g.width) 0 (new_born g.width) h.history (told.cut kept)
 
   abbrev program : Reads WalkEnd
   program = walk_volume g
@@ -127,15 +135,18 @@ module _ (g : Geometry) (journal : ℕ) (wide : Bool) (closed : List Transaction
       ∙ ap Some (ap (disk_of (volume_in g m.image)) (place_is f i)
       ∙ (volume_bytes g m.image division (place f i) (subst (λ b. b < g.zones) (sym (files.places f i)) x.low) ∙ has))
 
+  -- what is told of a source reads the notes alone
+  shown_source : {f i z y : ℕ} (n : ℕ) → z ≡ y → IsOf (submitted_by g journal wide closed h) m f i n z → IsOf (submitted_by g journal wide [] h) m f i n y
+  shown_source n e (Sent o note held) = Sent o note (subst (λ b. HasOrigin m.origins b o) e held)
+  shown_source n e (Opened zero_is none) = Opened zero_is (subst (λ b. (o : ℕ) → HasOrigin m.origins b o → ⊥) e none)
+
   -- the version whose request the medium has is the one that is shown
   is_shown : (f i n : ℕ) → told.maps (told.cut kept) f i ≡ true → (x : Has f i n) → recovered (place f i) ≡ told.content f i x.version → IsShown g journal wide h m tree alike.to f i n
   is_shown f i n mapped x has = record {
     version = x.version;
     later = x.later;
     shown = block_shown f i n mapped x has;
-    request = x.origin;
-    note = x.note;
-    held = subst (λ b. HasOrigin m.origins b x.origin) (sym (files.places f i)) x.held;
+    source = shown_source x.version (sym (files.places f i)) x.source;
   }
 
   placed : (f i : ℕ) → told.maps (told.cut kept) f i ≡ true → block_at tree (alike.to f) i ≡ Some (recovered (place f i))
@@ -179,12 +190,9 @@ module _ (g : Geometry) (journal : ℕ) (wide : Bool) (closed : List Transaction
       let x = shows.latest f i k.0 mapped k.1 in
       let same : in_history.content f i x.version ≡ bytes = same_Some (in_history.content f i x.version) bytes (sym x.shown ∙ at) in
       let late : e < x.version = ⊎_elim (λ lt. lt) (λ low. absurd (newer x.version low same)) (cases_lt e x.version) in
-      inl (
-        x.request,
-        f,
-        i,
-        x.version,
-        x.note,
-        late,
-        record { block = place_of g journal wide h m f i; put = order.block_of (place_of g journal wide h m f i) x.request x.held; origin = x.request; held = x.held; later = omega arith },
-      )
+      by x.version late x.source
+    where
+      by : (n : ℕ) → e < n → IsOf (submitted_by g journal wide [] h) m f i n (place_of g journal wide h m f i) → IsLaterKept in_history (submitted_by g journal wide [] h) m count e
+      by n late (Opened zero_is none) = absurd (omega arith)
+      by n late (Sent o note held) =
+          inl (o, f, i, n, note, late, record { block = place_of g journal wide h m f i; put = order.block_of (place_of g journal wide h m f i) o held; origin = o; held = held; later = omega arith })

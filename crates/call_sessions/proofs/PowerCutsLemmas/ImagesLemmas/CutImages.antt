@@ -51,6 +51,7 @@ use Rattle.host_machine.specs.State.{Host}
 use Rattle.host_machine.specs.laws.Contract.{session}
 use Rattle.minix_host.specs.ByteCalls.{ByteCall}
 use Rattle.minix_host.specs.Runs.{HasTreeLike, KeepsSession, tree_after_transactions}
+use Rattle.tree_model.proofs.PlainTrees.{new_born}
 use Rattle.minix_host.specs.Sessions.{Opening, over, Stands}
 use Rattle.minix_host.proofs.RealJournal.{no_header}
 use Rattle.minix_host.proofs.SessionsKept.{session_kept}
@@ -343,7 +344,7 @@ module _ (g : Geometry) (sound : IsSound g) (journal : ℕ) (wide : Bool) (low :
       -- ---- its tree
 
       session_keeps : KeepsSession o h
-      session_keeps = session_kept o h kept.sound
+      session_keeps = session_kept o (new_born g.width) h kept.sound
 
       pub tree_like : HasTreeLike o (volume_in g m.image) (tree_after_transactions o h (found sess m))
       tree_like = session_keeps.trees m (volume_in g m.image) closed volume_recovered

@@ -41,7 +41,7 @@ module _ (s : Opening) where
   touches_loggable : (h : Host VolumeNow ByteCall Reply) (t : PlainTree) → Stands s h.volume t → TouchesLoggable (over s) h
   unfolding done_as
   touches_loggable h t stands c accepted enough b i =
-      let n = length h.history + 1 in
+      let n = s.first + (length h.history + 1) in
       let number = number_in (tree_of_now h.volume) n in
       let r = h.journal.running.number in
       let all : IsAnyCall r h.volume number c.call (called h.volume number r c.call).change = any_call r h.volume number c.call (finds_room h.volume stands.plain n c.call accepted enough) in

@@ -17,6 +17,7 @@ use Rattle.crash_laws.specs.Found.{IsFound}
 use Rattle.crash_laws.specs.Recovery.{IsRecovered}
 use Rattle.crash_laws.specs.Session.{Medium}
 use Rattle.host_machine.specs.runs.Runs.{Event}
+use Rattle.tree_model.proofs.PlainTrees.{new_born}
 use Rattle.minix_host.proofs.RealJournal.{kind_written}
 use Rattle.minix_host.proofs.SessionsKept.{session_kept}
 use Rattle.mount_make.specs.Images.{divided, has_journal, fault_in_journal, mounted, recovered_image, image_tree}
@@ -91,7 +92,7 @@ module _ (s : Start) (sizes : HasSizes s) (new : IsPlainNow (new_now s.geometry)
 
     pub holds_kept : (closed : List Transaction) × HoldsKept s events m (disk_of (recovered_image m.image)) closed
     holds_kept =
-        let keeps = session_kept (made_opening s.geometry s.journal s.wide s.quota) (host_of s events) kept_run.sound in (
+        let keeps = session_kept (made_opening s.geometry s.journal s.wide s.quota) (new_born s.geometry.width) (host_of s events) kept_run.sound in (
           keeps.closed,
           keeps.sentences.prefix m (disk_of (recovered_image m.image)) cut
               (cut_recovered s.geometry sizes.sound s.journal s.wide sizes.least sizes.most s.quota s.limit sizes.words (host_of s events) kept_run m cut found_super made keeps.closed),

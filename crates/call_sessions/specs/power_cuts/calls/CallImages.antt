@@ -2,8 +2,7 @@
 use Rattle.std.specs.Prelude.{◌≡◌, ◌≢◌, ℕ, Bool, ◌+◌, ◌<◌, ◌≤◌, ◌⊎◌, true, List, [], Some, slice_get}
 use Rattle.minix_layout.specs.declared.division.Geometry.{Geometry}
 use Rattle.minix_layout.specs.Geometry.{IsSound}
-use Rattle.order_model.specs.declared.note.Note.TheVariants.{Page}
-use Rattle.order_model.specs.OrderClosed.{HasOrigin, IsOrderClosed}
+use Rattle.order_model.specs.OrderClosed.{IsOrderClosed}
 use Rattle.log_model.specs.Marks.{Transaction}
 use Rattle.journal_ring.specs.running.Open.{quota}
 use Rattle.tree_model.specs.declared.call.Call.{Call}
@@ -17,6 +16,7 @@ use Rattle.crash_laws.specs.Found.{found}
 use Rattle.crash_laws.specs.Headline.{HoldsPrefix}
 use Rattle.crash_laws.specs.History.{History, last_write, IsLastChange}
 use Rattle.crash_laws.specs.PromiseRules.{IsSettled, IsSuperseded}
+use Rattle.crash_laws.specs.Recovery.{IsOf}
 use Rattle.crash_laws.specs.Session.{Session, Medium}
 use Rattle.crash_laws.specs.Volumes.{WalkEnd}
 use Rattle.host_machine.specs.State.{Host}
@@ -85,14 +85,13 @@ place_of g journal wide h m f i =
     told.place (answer (disk_of (recovered_image m.image)) (call_over (opening_on g journal wide)).program) (told.cut (kept_count g journal wide h m)) f i
 
 -- The tree of a recovered volume, into whose births `to` leads, has this block of the file in a version that is no older
--- than entry n; and the medium has at the block's place the request that carried this very version.
+-- than entry n; and the medium has at the block's place the request that carried this very version, or what was there
+-- when the session began.
 pub record IsShown (g : Geometry) (journal : ℕ) (wide : Bool) (h : Host VolumeNow Call Reply) (m : Medium) (tree : Tree) (to : ℕ → ℕ) (f i n : ℕ) : Type 0 where
   pub version : ℕ
   pub later : n ≤ version
   pub shown : block_at tree (to f) i ≡ Some ((history_of g journal wide h).content f i version)
-  pub request : ℕ
-  pub note : slice_get h.journal.flush.notes request ≡ Some (Page f i version)
-  pub held : HasOrigin m.origins (place_of g journal wide h m f i) request
+  pub source : IsOf (submitted_by g journal wide [] h) m f i version (place_of g journal wide h m f i)
 
 -- so, or an entry of the transactions that were kept removed the file or unmapped the block
 abbrev pub IsShownOrGone : Geometry → ℕ → Bool → Host VolumeNow Call Reply → Medium → ℕ → Tree → (ℕ → ℕ) → ℕ → ℕ → ℕ → Type 0
