@@ -124,6 +124,13 @@ impl EpochDevice {
         is_number(self.cut_at, self.trace.steps)
     }
 
+    /// What a power cut would leave on the medium now.
+    pub fn medium(&self, alloc: Global) -> Result<Image, NoMemory>
+        ensures { IfOk result (λ i. i ≡ (seen self.now).surface) }
+    {
+        self.surface.copy(alloc)
+    }
+
     // No command may go.
     fn is_held(&self) -> bool
         ensures value { result ≡ is_held self.now }

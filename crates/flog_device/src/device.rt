@@ -133,6 +133,16 @@ impl FlogDevice {
         self.is_off() || self.failed
     }
 
+    /// What a power cut would leave on the medium now.
+    pub fn medium(&self, alloc: Global) -> Result<Image, NoMemory>
+        ensures { IfOk result (λ i. i ≡ (seen self.now).surface) }
+    {
+        let mut image = self.data_area.copy(alloc)?;
+        let mut places = no_parts(alloc, image.len())?;
+        self.log.lay_over(&self.trace.took, &mut image, &mut places);
+        Ok(image)
+    }
+
     // How many pages the log has room for. The segments whose pages are all folded are erased.
     fn free_places(&self) -> usize
         ensures { result ≡ free_places self.now }
