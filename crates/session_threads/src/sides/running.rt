@@ -1,5 +1,6 @@
 //! The workers, the three locks, and how the sides come together behind the join.
 ghost use Rattle.std.specs.Prelude.{◌≡◌, [], false, replicate, IfOk};
+ghost use denote.Param.Send.{IsSend, IsSync};
 ghost use Rattle.order_model.specs.Device.{IsUntouched};
 ghost use Rattle.order_model.specs.Machine.{machine_of};
 ghost use Rattle.schedulers.specs.reassign.Scheduler.{IsNewScheduler};
@@ -28,8 +29,11 @@ use schedulers::reassign::{CAPACITY, Scheduler};
 use std::alloc::Global;
 use std::sync::{Mutex, Wait};
 use std::thread;
-use std::thread::Threads;
+use std::thread::{Builder, Threads};
 use thread_sides::{DeviceSide, Effects, IdFlags, OpensDevice, OpensScheduler, SchedSide};
+
+// The stack of a worker's thread, in bytes.
+const STACK: usize = 1 << 20;
 
 // So many callers, counted from 1, and the six other loops.
 fn workers(alloc: Global, callers: u32) -> Result<Vec<u32>, NoMemory> {
@@ -72,6 +76,45 @@ fn work<
         106 => persist_loop(rt, dev, flags, gate, seed),
         thread => caller_loop(rt, alloc, host, flags, gate, thread),
     }
+}
+
+// Each worker in a thread of its own, until all have ended. Where a thread is refused, all loops are told, so that they end.
+fn run_workers<
+    S: Scheduler + OpensScheduler + Drop + Send,
+    D: OrderedDev + OpensDevice + Drop + Send,
+    N: SessionNames + Send + Sync,
+    H: Threads + Wait + Sync,
+    G: Gate + Sync,
+>(
+    rt: &H,
+    alloc: Global,
+    gate: &G,
+    flags: &Flags,
+    seed: u64,
+    host: &Mutex<HostSide<'_, N, H>>,
+    sched: &Mutex<SchedSide<'_, S, N, H>>,
+    dev: &Mutex<DeviceSide<'_, D, N, H>>,
+    workers: &[u32],
+) {
+    thread::scope(
+        thread::scope_env(),
+        rt,
+        |scope|
+            requires { IsSync H.row × IsSync G.row × IsSend S.row × IsSend D.row × IsSend N.row × IsSync N.row }
+        {
+            for who in workers {
+                let who = *who;
+                let started = Builder::new().stack_size(STACK).spawn_scoped(
+                    scope,
+                    move || work(rt, alloc, gate, flags, seed, host, sched, dev, who),
+                );
+                if started.is_err() {
+                    flags.raise_refused();
+                    break;
+                }
+            }
+        },
+    );
 }
 
 // Brings the sides together once their workers have ended.
@@ -153,7 +196,7 @@ pub fn run_sides<
     ensures ended { IfOk result (λ r. HasEnded cut r.host.host (S.steps.seen (S.state r.sched)) (D.seen (D.state r.dev))) }
     ensures sides { IfOk result (λ r. AreSides N.opening N.start S.steps (S.state (S.opened N.setup.limit)) (machine_of D.OrderedDev) (D.state (D.opened_over N.image N.setup)) r.effects r.host (S.state r.sched) (D.state r.dev)) }
 {
-    let Ok(mut workers) = workers(alloc, callers) else {
+    let Ok(workers) = workers(alloc, callers) else {
         drop(host);
         drop(sched);
         drop(dev);
@@ -170,30 +213,22 @@ pub fn run_sides<
     let mut host = HostSide::<N, H>::open(alloc, host, submit, completion);
     let mut sched = SchedSide::<S, N, H>::open(alloc, sched, sched_ids, request, send);
     let mut dev = DeviceSide::<D, N, H>::open(alloc, dev, device_ids, command, post);
-    let count = workers.len().max(1);
     let mut is_refused = false;
     for _ in rt.forever() {
         let flags = Flags::lowered();
         let host_lock = Mutex::new(host);
         let sched_lock = Mutex::new(sched);
         let dev_lock = Mutex::new(dev);
-        thread::for_each_mut(
+        run_workers(
             rt,
-            workers.as_mut_slice(),
-            count,
-            &|_, who: &mut u32| {
-                work(
-                    rt,
-                    alloc,
-                    gate,
-                    &flags,
-                    seed,
-                    &host_lock,
-                    &sched_lock,
-                    &dev_lock,
-                    *who,
-                )
-            },
+            alloc,
+            gate,
+            &flags,
+            seed,
+            &host_lock,
+            &sched_lock,
+            &dev_lock,
+            workers.as_slice(),
         );
         host = host_lock.into_inner();
         sched = sched_lock.into_inner();
