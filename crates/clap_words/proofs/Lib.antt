@@ -1,0 +1,4 @@
+mod Dashes
+mod Entered
+mod Law
+mod Walks
