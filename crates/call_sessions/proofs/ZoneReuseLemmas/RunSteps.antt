@@ -41,7 +41,7 @@ commit_kept : {s : Session} → FitsNotes s → CommitOrder s → (m : Medium) �
 commit_kept {s = s} fits commits m order k c p commit lt put kept =
     let log = fits.log k c (ap (option_and_then log_transaction) commit) in
     order.closed c p
-    (record { first = (s.journal + log.0, log.2); ordered = fits.ordered c (Commit k) commit refl; second = put; fence = (c, omega arith, lt, commits.barrier k c commit) })
+    (inl (record { first = (s.journal + log.0, log.2); ordered = fits.ordered c (Commit k) commit refl; second = put; fence = (c, omega arith, lt, commits.barrier k c commit) }))
     kept
 
 -- just this entry and this zone
