@@ -1,5 +1,6 @@
 pub mod Made
 pub mod Cut
+pub mod OpenedTrees
 pub mod Headlines
 pub mod Seen
 pub mod Replaced

@@ -16,7 +16,6 @@ use Rattle.minix_host.specs.Sessions.{Stands}
 use Rattle.session_core.specs.run.Beginning.{call_over}
 use Rattle.session_core.specs.run.End.{tree_behind}
 use Rattle.call_sessions.specs.promises.Answers.{AnsweredAt}
-use Rattle.call_sessions.proofs.PromisesLemmas.SessionTrees.{tree_told}
 use Rattle.call_sessions.proofs.PromisesLemmas.Renames.{renamed_leads}
 use Rattle.session_grammar.specs.declared.session_script.SessionScript.{SessionScript}
 use Rattle.session_core.specs.Core.{EndState, opening_of}
@@ -24,11 +23,12 @@ use Rattle.session_core.specs.Headline.{medium_of, told_by, HasLaterKept, IsShow
 use Rattle.session_core.specs.Replaced.{IsRenamedTo, HasBytesSince}
 use Rattle.session_core.specs.declared.report.SessionReport.{SessionReport}
 use Rattle.session_core.proofs.Headlines.{all_shown}
+use Rattle.session_core.proofs.OpenedTrees.{is_born, told_tree}
 
 module _ (s : SessionScript) (end : EndState) (r : SessionReport) (is : HeadlineOn s end r) (e f : ℕ) (more : List (List ℕ)) (x : IsRenamedTo s end r.found e f more) where
   -- the new path leads to the file after so many transactions
   behind : node_of_path (tree_behind (opening_of s) end.host r.found) more ≡ Ok f
-  behind = x.stays ∙ renamed_leads (opening_of s) end.host x.place x.path x.other x.names more x.old x.new f x.led s.programs x.thread is.follows x.renamed
+  behind = x.stays ∙ renamed_leads (opening_of s) (is_born s) end.host x.place x.path x.other x.names more x.old x.new f x.led s.programs x.thread is.follows x.renamed
 
   -- and in the tree that was recovered
   pub leads : node_of_path is.prefix.tree more ≡ Ok (is.prefix.alike.to f)
@@ -58,7 +58,7 @@ module _ (s : SessionScript) (end : EndState) (r : SessionReport) (is : Headline
         by : IsShownBy s end (medium_of r) is.prefix.tree is.prefix.alike.to f i n ⊎ IsSuperseded (told_by s end) f i n ((told_by s end).cut r.found) → block_at is.prefix.tree (is.prefix.alike.to f) i ≡ Some bytes
         by (inl y) =
             y.shown
-            ∙ ap Some (ap (λ tree. unwrap_or (block_at tree f i) []) (tree_told (opening_of s) end.host y.version) ∙ ap (λ o. unwrap_or o []) (has.stays y.version y.later))
+            ∙ ap Some (ap (λ tree. unwrap_or (block_at tree f i) []) (told_tree s end.host y.version) ∙ ap (λ o. unwrap_or o []) (has.stays y.version y.later))
         by (inr y) =
             let after = has.stays y.entry (let low = y.later in omega (arith, low)) in
-            absurd (false≢true (sym y.unmapped.after ∙ ap (λ tree. is_some (block_at tree f i)) (tree_told (opening_of s) end.host y.entry) ∙ ap is_some after))
+            absurd (false≢true (sym y.unmapped.after ∙ ap (λ tree. is_some (block_at tree f i)) (told_tree s end.host y.entry) ∙ ap is_some after))

@@ -17,11 +17,11 @@ use Rattle.session_core.specs.run.Beginning.{call_over}
 use Rattle.session_core.specs.run.End.{tree_behind}
 use Rattle.call_sessions.proofs.PowerCutsLemmas.CallsLemmas.ShownFiles.{later_kept}
 use Rattle.call_sessions.specs.promises.Trees.{tree_at}
-use Rattle.call_sessions.proofs.PromisesLemmas.SessionTrees.{tree_told}
 use Rattle.session_grammar.specs.declared.session_script.SessionScript.{SessionScript}
 use Rattle.session_core.specs.Core.{EndState, geometry_of, opening_of}
 use Rattle.session_core.specs.Headline.{medium_of, told_by, kept_in, HasLaterKept, HasNewerBytes, ShowsLater, ByBytes, ByMetadata, HeadlineOn}
 use Rattle.session_core.specs.declared.report.SessionReport.{SessionReport}
+use Rattle.session_core.proofs.OpenedTrees.{told_tree}
 
 -- a block that the one of two like nodes maps, the other maps
 mapped_back : (i : ℕ) (n m : Option Node) → SameMetadataAt n m → is_some (block_in m i) ≡ true → is_some (block_in n i) ≡ true
@@ -46,7 +46,7 @@ module _ (s : SessionScript) (end : EndState) (r : SessionReport) (is : Headline
 
   -- the history is read over the tree after so many transactions as were found
   is_behind : (tree_after (call_over (opening_of s)).model end.host.history ((told_by s end).cut (kept_in s end (medium_of r)))).tree ≡ behind
-  is_behind = tree_told (opening_of s) end.host ((told_by s end).cut (kept_in s end (medium_of r))) ∙ ap (tree_behind (opening_of s) end.host) (sym is.counted)
+  is_behind = told_tree s end.host ((told_by s end).cut (kept_in s end (medium_of r))) ∙ ap (tree_behind (opening_of s) end.host) (sym is.counted)
 
   by_bytes : (e : ℕ) → HasNewerBytes s end r.found is.prefix.tree e → HasLaterKept s end (medium_of r) e
   by_bytes e x =
@@ -56,7 +56,7 @@ module _ (s : SessionScript) (end : EndState) (r : SessionReport) (is : Headline
       let there : maps_block behind x.file x.index ≡ true =
       mapped_back x.index (at_number behind x.file) (at_number is.prefix.tree (alike.to x.file)) (alike.same_metadata x.path x.file x.led) (ap is_some has) in
       later_kept (geometry_of s) s.journal s.wide is.closed end.host (medium_of r) is.prefix.tree alike.to (opening_of s).image is.order.closed is.shown x.file x.index e x.bytes (ap (λ tree. maps_block tree x.file x.index) is_behind ∙ there) has
-      (λ v low same. x.newer v low (ap (λ tree. unwrap_or (block_at tree x.file x.index) []) (sym (tree_told (opening_of s) end.host v)) ∙ same))
+      (λ v low same. x.newer v low (ap (λ tree. unwrap_or (block_at tree x.file x.index) []) (sym (told_tree s end.host v)) ∙ same))
 
   by_metadata : (e : ℕ) → ((v : ℕ) → v ≤ e → AreAlike (tree_at (opening_of s) end.host v) is.prefix.tree → ⊥) → HasLaterKept s end (medium_of r) e
   by_metadata e none =

@@ -35,8 +35,8 @@ IsAtLimit s end = length end.host.journal.flush.requests ≡ s.header.limit
 
 -- The reply is what the tree says to a call: to this one before entry i, or, of a call that began, where it began.
 pub data IsTreesReply (s : Opening) (h : Host VolumeNow Call Reply) (i t : ℕ) (c : Call) (r : Reply) : Type 0 where
-  AtItsEnd : r ≡ reply_of (room_of s.geometry) (tree_at s h i) (i + 1) c → IsTreesReply s h i t c r
-  AtItsBegin : (b : ℕ) → IsBeginOf h.history b i t c → r ≡ reply_of (room_of s.geometry) (tree_at s h b) (b + 1) c → IsTreesReply s h i t c r
+  AtItsEnd : r ≡ reply_of (room_of s.geometry) (tree_at s h i) (s.first + (i + 1)) c → IsTreesReply s h i t c r
+  AtItsBegin : (b : ℕ) → IsBeginOf h.history b i t c → r ≡ reply_of (room_of s.geometry) (tree_at s h b) (s.first + (b + 1)) c → IsTreesReply s h i t c r
 
 -- Why a call of thread t that ends so as entry i does.
 abbrev pub HasCause : SessionScript → EndState → ℕ → ℕ → Call → Ending Reply → Type 0

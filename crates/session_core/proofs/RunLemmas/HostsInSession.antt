@@ -19,8 +19,8 @@ use Rattle.host_machine.specs.runs.Runs.{Event, stepped, steps}
 use Rattle.host_machine.specs.runs.Runs as runs
 use Rattle.host_machine.specs.runs.laws.Written.{AreWritten}
 use Rattle.minix_host.specs.PlainTrees.{PlainTree}
-use Rattle.minix_host.specs.Runs.{IsOpenedVolume, HasEmptyJournal}
-use Rattle.minix_host.specs.Sessions.{Opening, model_of}
+use Rattle.minix_host.specs.Runs.{IsNewOpening, IsOpenedVolume, HasEmptyJournal}
+use Rattle.minix_host.specs.Sessions.{Opening, model_of, model_from}
 use Rattle.session_core.specs.run.CodeHosts.{HasJournal, IsInSession}
 use Rattle.call_sessions.specs.Sessions.{WriteBytes, call_over, opened_with, host_behind, KeepsCalls}
 use Rattle.call_sessions.proofs.CallsKept.{same_geometry, calls_kept}
@@ -30,9 +30,16 @@ use Rattle.call_sessions.proofs.CallsKept.{same_geometry, calls_kept}
 abbrev setup_by : Geometry → ℕ → Writers → ℕ → ℕ → Setup
 setup_by g sequence w q zones = record { journal = zones; sequence = sequence; writers = w; zmap = g.zmap; quota = q }
 
-pub made_in_session : (s : Opening) (v : VolumeNow) (ps : Cache) (r : JournalRing) (programs : List (List Call)) → v.geometry ≡ s.geometry → HasJournal s r.made_with → IsInSession s v r.ring r.limit programs [] (host_made v ps r programs)
-made_in_session s v ps r programs same j = record {
-  host = ap (λ (g : Geometry). opened (model_of (λ (c : Call). c) g) (setup_by g r.made_with.sequence (writers r.made_with) (quota r.made_with) g.zones) v r.ring g.zones r.limit programs) same;
+-- the model of a new opening's division is that of the opening
+new_model : (s : Opening) → IsNewOpening s → model_of (λ (c : Call). c) s.geometry ≡ (call_over s).model
+new_model s new = ap (λ (t : PlainTree). model_from (λ (c : Call). c) s.geometry t 0) (sym new.tree) ∙ ap (model_from (λ (c : Call). c) s.geometry s.tree) (sym new.first)
+
+pub made_in_session : (s : Opening) (v : VolumeNow) (ps : Cache) (r : JournalRing) (programs : List (List Call)) → IsNewOpening s → v.geometry ≡ s.geometry → HasJournal s r.made_with → IsInSession s v r.ring r.limit programs [] (host_made v ps r programs)
+made_in_session s v ps r programs new same j = record {
+  new = new;
+  host =
+      ap (λ (g : Geometry). opened (model_of (λ (c : Call). c) g) (setup_by g r.made_with.sequence (writers r.made_with) (quota r.made_with) g.zones) v r.ring g.zones r.limit programs) same
+      ∙ ap (λ m. opened m (setup_by s.geometry r.made_with.sequence (writers r.made_with) (quota r.made_with) s.geometry.zones) v r.ring s.geometry.zones r.limit programs) (new_model s new);
   calls = refl;
   behind_zones = ap (λ (g : Geometry). g.zones) same;
   journal = j;
@@ -50,7 +57,7 @@ module _ (s : Opening) (v : VolumeNow) (ring : LogRing) (limit : ℕ) (programs 
   geometry_is = ap (λ x. x.volume.geometry) inside.host ∙ same_geometry s v ring limit programs written o j bytes events
 
   pub model_is : model_now h ≡ (call_over s).model
-  model_is = ap (λ (g : Geometry). model_of (λ (c : Call). c) g) geometry_is
+  model_is = ap (λ (g : Geometry). model_of (λ (c : Call). c) g) geometry_is ∙ new_model s inside.new
 
   pub setup_is : setup_now h ≡ (call_over s).setup
   setup_is =
@@ -64,6 +71,7 @@ module _ (s : Opening) (v : VolumeNow) (ring : LogRing) (limit : ℕ) (programs 
   goes_on : (step : Model PlainTree VolumeNow Call Reply → Setup → Host VolumeNow Call Reply → Host VolumeNow Call Reply) (e : Event) → ((x : Host VolumeNow Call Reply) → step (call_over s).model (call_over s).setup x ≡ stepped (call_over s) x e)
       → (new : HostNow) → new ≡ with_host h (step (model_now h) (setup_now h) h.host) → IsInSession s v ring limit programs (events ++ e ∷ []) new
   goes_on step e is new did = record {
+    new = inside.new;
     host =
         ap (λ x. x.host) did ∙ ap (λ m. step m (setup_now h) h.host) model_is ∙ ap (λ u. step (call_over s).model u h.host) setup_is ∙ ap (step (call_over s).model (call_over s).setup) inside.host
         ∙ is (host_behind s v ring limit programs events) ∙ sym (steps_more s (opened_with s v ring limit programs) events e);

@@ -24,7 +24,7 @@ pub record Beginning (K S : Type 0) : Type 0 where
 pub record CanBegin {K S : Type 0} (k : SchedSteps K) (m : Machine S) (sched_valid : K → Type 0) (dev_valid : S → Type 0) (b : Beginning K S) : Type 0 where
   -- what the journal writes, its format reads
   pub written : AreWritten b.opening.format b.opening.writers
-  -- a volume of the root alone, whose blocks are the first of the image
+  -- a volume of the tree that is opened, whose blocks are the first of the image
   pub opened : IsOpenedVolume b.opening b.start.volume
   -- an empty journal after it, with sequences for all transactions that a session of this limit can have
   pub journal : HasEmptyJournal b.opening b.start.ring b.start.limit

@@ -17,7 +17,7 @@ ghost use Rattle.host_machine.specs.Host as machine;
 ghost use Rattle.host_machine.specs.runs.Runs.{Event};
 ghost use Rattle.host_machine.specs.runs.Runs as runs;
 ghost use Rattle.host_machine.specs.runs.laws.Written.{AreWritten};
-ghost use Rattle.minix_host.specs.Runs.{IsOpenedVolume, HasEmptyJournal};
+ghost use Rattle.minix_host.specs.Runs.{IsNewOpening, IsOpenedVolume, HasEmptyJournal};
 ghost use Rattle.minix_host.specs.Sessions.{Opening};
 ghost use Rattle.host_core.specs.Now.{HostNow, with_host, host_made, model_now, setup_now};
 ghost use Rattle.call_sessions.specs.Sessions.{WriteBytes, made_now, made_opening, call_over, KeepsCalls};
@@ -30,12 +30,12 @@ use call_sessions::sessions_of_calls_on_made_images;
 use order_model::OrderedDev;
 use schedulers::reassign::Scheduler;
 
-/// A law, which does nothing when it is called: a host as code makes it is in the session of its volume and journal, with
-/// no step done; each step of its callers and actors, as code states it, is the session's next one; and all that the
+/// A law, which does nothing when it is called: a host as code makes it is in the session of its new volume and journal,
+/// with no step done; each step of its callers and actors, as code states it, is the session's next one; and all that the
 /// session keeps is kept by it.
 pub fn hosts_of_code_stay_in_session()
     ensures made { (s : Opening) (v : VolumeNow) (ps : Cache) (r : JournalRing) (programs : List (List Call)) →
-        v.geometry ≡ s.geometry → HasJournal s r.made_with → IsInSession s v r.ring r.limit programs [] (host_made v ps r programs) }
+        IsNewOpening s → v.geometry ≡ s.geometry → HasJournal s r.made_with → IsInSession s v r.ring r.limit programs [] (host_made v ps r programs) }
     ensures model { (s : Opening) (v : VolumeNow) (ring : LogRing) (limit : ℕ) (programs : List (List Call)) (events : List Event) (h : HostNow) →
         AreWritten s.format s.writers → IsOpenedVolume s v → HasEmptyJournal s ring limit → WriteBytes programs → IsInSession s v ring limit programs events h →
         (model_now h ≡ (call_over s).model) × (setup_now h ≡ (call_over s).setup) }

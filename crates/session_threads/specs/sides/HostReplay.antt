@@ -43,7 +43,7 @@ pub record HostSideNow : Type 0 where
 -- The host is the replay of its events from the one that the session opens, over the completions that it took; it sent what it
 -- submitted, and took what came to it.
 pub record IsHostReplay (s : Opening) (b : Start) (h : HostSideNow) : Type 0 where
-  -- what the session opens: journal blocks that can be read, a volume of the root alone, an empty journal, calls that write bytes
+  -- what the session opens: journal blocks that can be read, a volume of the tree that is opened, an empty journal, calls that write bytes
   pub written : AreWritten s.format s.writers
   pub opened : IsOpenedVolume s b.volume
   pub journal : HasEmptyJournal s b.ring b.limit

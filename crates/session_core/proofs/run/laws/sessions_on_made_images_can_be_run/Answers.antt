@@ -23,7 +23,7 @@ returns g c =
         dev_is = dev_is;
         starts = c.sessions_can_start_on_made_images.ensures geometry journal wide q limit capacity programs (g.S.Scheduler.steps.seen sched) (g.D.OrderedDev.seen dev) (omega arith) new;
       };
-      host = made_in_session (made_opening geometry journal wide q) (made_now geometry) ps (new_ring.made (new_journal journal wide) limit) programs refl (record { sequence = refl; writers_are = refl; quota_is = refl });
+      host = made_in_session (made_opening geometry journal wide q) (made_now geometry) ps (new_ring.made (new_journal journal wide) limit) programs (record { tree = refl; first = refl; freeable = refl }) refl (record { sequence = refl; writers_are = refl; quota_is = refl });
       capacity_is = refl;
       threads_are = refl;
     }
