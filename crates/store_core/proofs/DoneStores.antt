@@ -182,4 +182,4 @@ module _ (x : StoreScript) (well : IsWellFormed x) (end : EndState) (r : Session
       let k = later-call number_in (front x.room) steps script end r is store n t (calls.Bytes log_path off body) reply e in
       let few = few-of x.room (calls.Bytes log_path off body) (log-call k.0 (calls.Bytes log_path off body) k.2) off body refl in
       is.follows.answers (suc n) t (calls.Bytes log_path off body) reply e (λ kind. absurd (false≢true kind))
-      ∙ put-ok x.room volume well.room zones (T (suc n)) (suc n + 1) off body few (has-log first.0 first.1 first.2 n)
+      ∙ put-ok x.room volume well.room zones (T (suc n)) (0 + (suc n + 1)) off body few (has-log first.0 first.1 first.2 n)

@@ -11,7 +11,9 @@ use Rattle.tree_model.specs.declared.call.Call.{Call}
 use Rattle.tree_model.specs.declared.call.Call.TheVariants.{Bytes, Fdatabarrier}
 use Rattle.tree_model.specs.declared.call.Reply.{Reply}
 use Rattle.tree_model.specs.declared.call.Reply.TheVariants as replies
+use Rattle.tree_model.specs.Calls.{reply_of}
 use Rattle.tree_model.specs.Histories.{is_ok}
+use Rattle.volume_steps.specs.Now.{room_of}
 use Rattle.crash_laws.specs.LegalHistory.{Event, Begin, End, thread_of, Follows}
 use Rattle.crash_laws.specs.PromiseRules.{IsOn}
 use Rattle.flush_actor.specs.Kinds.{is_whole, is_reading}
@@ -21,8 +23,9 @@ use Rattle.minix_host.specs.Calls.{kind_of}
 use Rattle.call_sessions.specs.promises.Answers.{AnsweredAt}
 use Rattle.call_sessions.specs.promises.Entries.{BeginsAt, EndsAt}
 use Rattle.call_sessions.specs.promises.Legal.{event_of, events_in, reply_in, program_of}
+use Rattle.call_sessions.specs.promises.Trees.{tree_at}
 use Rattle.session_grammar.specs.declared.session_script.SessionScript.{SessionScript}
-use Rattle.session_core.specs.Core.{EndState}
+use Rattle.session_core.specs.Core.{EndState, opening_of}
 use Rattle.session_core.specs.Headline.{HeadlineOn, told_by}
 use Rattle.session_core.specs.declared.report.SessionReport.{SessionReport}
 use Rattle.store_core.specs.Store.{Numbering, IsPutAt, IsBarred, IsStoreLog}
@@ -147,7 +150,9 @@ module _ (number : Numbering) (path : List ℕ) (before : List Call) (ops : List
         | inl ok ↦ (subst (λ reply. EndsAt end.host.history e t (Fdatabarrier path) (Answered reply)) (ok-is x.0 ok) x.1, refl)
         | inr other ↦
             let told = is.follows.answers e t (Fdatabarrier path) x.0 x.1 (λ kind same. true≢false (sym (ap is_ok same) ∙ other)) in
-            let same : x.0 ≡ replies.Ok = told ∙ trees.found e q t u j y c lt a b in
+            let number : 0 + (e + 1) ≡ e + 1 = omega arith in
+            let same : x.0 ≡ replies.Ok =
+            told ∙ ap (λ n. reply_of (room_of (opening_of s).geometry) (tree_at (opening_of s) end.host e) n (Fdatabarrier path)) number ∙ trees.found e q t u j y c lt a b in
             absurd (true≢false (sym (ap is_ok same) ∙ other))
       ]
 

@@ -18,8 +18,8 @@ use Rattle.session_core.specs.Report.{tree_behind}
 use Rattle.session_grammar.specs.declared.session_script.SessionScript.{SessionScript}
 use Rattle.session_core.specs.Core.{EndState, opening_of}
 use Rattle.session_core.specs.Headline.{HeadlineOn, told_by, medium_of, kept_in}
-use Rattle.call_sessions.proofs.PromisesLemmas.SessionTrees.{tree_told}
 use Rattle.session_core.specs.declared.report.SessionReport.{SessionReport}
+use Rattle.session_core.proofs.OpenedTrees.{told_tree}
 pub use Rattle.store_core.specs.Store.{IsHeldIn}
 use Rattle.store_core.specs.Store.{Numbering, Decodes, IsPutAt, IsStoreLog, AreHeld}
 use Rattle.store_core.proofs.Held.{none-beyond, own-put}
@@ -45,7 +45,7 @@ module _ (s : SessionScript) (end : EndState) (r : SessionReport) (is : Headline
   -- the history that is told is read over the trees of the tree model
   behind-history : (tree_after (call_over (opening_of s)).model end.host.history ((told_by s end).cut (kept_in s end (medium_of r)))).tree ≡ tree_behind (opening_of s) end.host r.found
   behind-history =
-      tree_told (opening_of s) end.host ((told_by s end).cut (kept_in s end (medium_of r)))
+      told_tree s end.host ((told_by s end).cut (kept_in s end (medium_of r)))
       ∙ ap (tree_behind (opening_of s) end.host) (sym is.counted)
 
   mapped-there : (f i : ℕ) (names : List (List ℕ)) (b : List ℕ) → node_of_path (tree_behind (opening_of s) end.host r.found) names ≡ Ok f → block_at is.prefix.tree (is.prefix.alike.to f) i ≡ Some b

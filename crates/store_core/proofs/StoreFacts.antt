@@ -34,7 +34,6 @@ use Rattle.store_core.specs.Program.{LogStep, calls_from, IsStore, AreDone, None
 use Rattle.store_core.proofs.LogSession.{follows, rooted, later-call, first-call, store-call, next-tree, log-tree, mapped-on, zeros-before, stays-behind}
 use Rattle.minix_host.specs.Numbers.{next_birth}
 use Rattle.call_sessions.specs.promises.Answers.{node_in}
-use Rattle.call_sessions.proofs.PromisesLemmas.SessionTrees.{tree_told}
 use Rattle.store_core.proofs.LogTrees.{names-are, log_path, log_names, leads-names, IsLogTree, IsStoreCall, quiet, zeros, put, IsPutTo, IsZeroWrite, put-leads, put-there, put-reply, put-touches}
 use Rattle.store_core.proofs.Log.{event-at, end-at, begins-no_end, answered-before}
 use Rattle.store_core.proofs.Held.{synced-put}
@@ -45,6 +44,7 @@ use Rattle.crash_laws.specs.PromiseRules.{Covers, IsOn}
 use Rattle.host_machine.specs.runs.Promises.{call_of}
 use Rattle.flush_actor.specs.Kinds.{is_whole}
 use Rattle.session_core.specs.Headline.{medium_of, kept_in}
+use Rattle.session_core.proofs.OpenedTrees.{told_tree}
 use Rattle.store_core.proofs.Order.{ends, ended-call, earlier-end, one-thread, IsPutCall, numbers-rise, kinds-of, ends-below}
 use Rattle.store_core.proofs.Writes.{IsZeros}
 use Rattle.tree_model.specs.declared.node.Node.{Node}
@@ -254,7 +254,7 @@ module _ (number : Numbering) (fills : List Call) (ops : List LogStep) (s : Sess
   machine-tree n = (views.tree_after (call_over (opening_of s)).model history n).tree
 
   same-tree : (n : ℕ) → machine-tree n ≡ T n
-  same-tree n = tree_told (opening_of s) end.host n
+  same-tree n = told_tree s end.host n
 
   told-maps : (n i : ℕ) → told.maps n 1 i ≡ maps_block (T n) 1 i
   told-maps n i = ap (λ t. maps_block t 1 i) (same-tree n)
@@ -347,7 +347,7 @@ module _ (number : Numbering) (fills : List Call) (ops : List LogStep) (s : Sess
     spelled = store.spelled entry.place i body (entry.stands ∙ ap (λ b. Some (PutOf i b)) (sym same-body))
 
     answered-ok : (n : ℕ) → is_ok (reply_of room (T q) n (PutOf i body)) ≡ true
-    answered-ok n = ap is_ok (put-reply room (T q) n (q + 1) i body ∙ sym (is.follows.answers q t (PutOf i body) replies.Ok e (λ kind. absurd (false≢true kind))))
+    answered-ok n = ap is_ok (put-reply room (T q) n (0 + (q + 1)) i body ∙ sym (is.follows.answers q t (PutOf i body) replies.Ok e (λ kind. absurd (false≢true kind))))
 
     tree-behind : T (suc q) ≡ tree_after room (T q) (0 + suc q) (PutOf i body)
     unfolding tree_after_entries
@@ -487,7 +487,7 @@ module _ (number : Numbering) (fills : List Call) (ops : List LogStep) (s : Sess
   pub node : (e t : ℕ) → BeginsAt history e t Barrier → node_in (T e) Barrier ≡ 1
   node e t b =
       let begins = is.follows.begins e t Barrier b in
-      let w = ok-found room (T e) (e + 1) begins.1 in
+      let w = ok-found room (T e) (0 + (e + 1)) begins.1 in
       let file_is = log-tree number fills ops s end r is store e in
       ap birth-found w.1 ∙ file_is.leads (w.0).birth (leads-names (T e) (w.0).birth (ap (λ o. is_found_at o (w.0).birth) w.1 ∙ eq-eqb (w.0).birth (w.0).birth refl))
 
@@ -509,7 +509,7 @@ module _ (number : Numbering) (fills : List Call) (ops : List LogStep) (s : Sess
   sync-node : (e t : ℕ) → BeginsAt history e t Sync → node_in (T e) Sync ≡ 1
   sync-node e t b =
       let begins = is.follows.begins e t Sync b in
-      let w = ok-found room (T e) (e + 1) (sym (sync-row room (T e) (e + 1)) ∙ begins.1) in
+      let w = ok-found room (T e) (0 + (e + 1)) (sym (sync-row room (T e) (0 + (e + 1))) ∙ begins.1) in
       let file_is = log-tree number fills ops s end r is store e in
       ap birth-found w.1 ∙ file_is.leads (w.0).birth (leads-names (T e) (w.0).birth (ap (λ o. is_found_at o (w.0).birth) w.1 ∙ eq-eqb (w.0).birth (w.0).birth refl))
 
