@@ -22,7 +22,6 @@ use Rattle.call_sessions.specs.Sessions.{call_over}
 use Rattle.call_sessions.specs.promises.Answers.{AnsweredAt, WasAnswered, node_in}
 use Rattle.call_sessions.specs.promises.Entries.{IsBeginOf}
 use Rattle.call_sessions.specs.promises.Trees.{tree_at, content_at}
-use Rattle.call_sessions.proofs.PromisesLemmas.SessionTrees.{tree_told}
 use Rattle.session_grammar.specs.declared.session_script.SessionScript.{SessionScript}
 use Rattle.session_core.specs.CallNames.{covers_data_alone}
 use Rattle.session_core.specs.Core.{EndState, opening_of}
@@ -30,6 +29,7 @@ use Rattle.session_core.specs.Headline.{medium_of, told_by, IsAllShown, IsShownB
 use Rattle.session_core.specs.declared.report.SessionReport.{SessionReport}
 use Rattle.session_core.proofs.CallNames.{begun, durable, data_alone, all}
 use Rattle.session_core.proofs.Headlines.{all_shown}
+use Rattle.session_core.proofs.OpenedTrees.{told_tree}
 use Rattle.system_laws.specs.covered.Calls.{HasPath, of_fsync, of_fdatasync, of_fbarrier, of_fdatabarrier, IsOnFile, on_all, on_path, Counts, synced, later, IsAnsweredOk, IsThereSince}
 
 -- a call began at one place alone
@@ -112,7 +112,7 @@ module _ (s : SessionScript) (end : EndState) (r : SessionReport) (is : Headline
     where
       by : IsShownBy s end (medium_of r) is.prefix.tree is.prefix.alike.to f i n ⊎ IsSuperseded (told_by s end) f i n ((told_by s end).cut r.found)
           → (v : ℕ) × (n ≤ v) × (block_at is.prefix.tree (is.prefix.alike.to f) i ≡ Some (content_at (opening_of s) end.host v f i))
-      by (inl x) = (x.version, x.later, x.shown ∙ ap Some (ap (λ tree. unwrap_or (block_at tree f i) []) (tree_told (opening_of s) end.host x.version)))
+      by (inl x) = (x.version, x.later, x.shown ∙ ap Some (ap (λ tree. unwrap_or (block_at tree f i) []) (told_tree s end.host x.version)))
       by (inr x) =
-          absurd (false≢true (sym x.unmapped.after ∙ ap (λ tree. is_some (block_at tree f i)) (tree_told (opening_of s) end.host x.entry)
+          absurd (false≢true (sym x.unmapped.after ∙ ap (λ tree. is_some (block_at tree f i)) (told_tree s end.host x.entry)
           ∙ there.stays x.entry (let low = x.later in omega (arith, low)) x.within))

@@ -1,6 +1,6 @@
 -- Replies are those of the tree where a call ends.
 use Rattle.std.specs.Prelude.{◌≡◌, ℕ, ◌+◌, false}
-use Rattle.std.proofs.Common.{sym, ◌∙◌}
+use Rattle.std.proofs.Common.{sym, ap, ◌∙◌, arith}
 use Rattle.std.proofs.lemmas.Bool.{false≢true}
 use Rattle.tree_model.specs.declared.call.Call.{Call}
 use Rattle.tree_model.specs.declared.call.Reply.{Reply}
@@ -17,6 +17,8 @@ use Rattle.session_core.proofs.CallNames.{begun}
 
 pub replied_there : (s : SessionScript) (end : EndState) (r : SessionReport) → HeadlineOn s end r → (i t : ℕ) (c : Call) (reply : Reply) → is_barrier_or_sync c ≡ false → IsTreesReply (opening_of s) end.host i t c reply
     → reply ≡ reply_of (room_of (opening_of s).geometry) (tree_at (opening_of s) end.host i) (i + 1) c
-replied_there s end r is i t c reply other (AtItsEnd same) = same
+replied_there s end r is i t c reply other (AtItsEnd same) =
+    let number : 0 + (i + 1) ≡ i + 1 = omega arith in
+    same ∙ ap (λ n. reply_of (room_of (opening_of s).geometry) (tree_at (opening_of s) end.host i) n c) number
 replied_there s end r is i t c reply other (AtItsBegin b began same) =
     absurd (false≢true (sym other ∙ sym (begun c) ∙ (is.follows.begins b t c began.begins).0))

@@ -6,6 +6,7 @@ use Rattle.tree_model.specs.declared.call.Call.{Call}
 use Rattle.tree_model.specs.declared.call.Reply.{Reply}
 use Rattle.tree_model.specs.Histories.{block_at, same_file}
 use Rattle.tree_model.specs.Maps.{at_number}
+use Rattle.tree_model.specs.Plain.{AreBornBefore}
 use Rattle.volume_steps.specs.Now.{VolumeNow}
 use Rattle.crash_laws.specs.History.{History, last_write, IsLastChange}
 use Rattle.crash_laws.specs.Volumes.{WalkEnd}
@@ -24,6 +25,7 @@ use Rattle.session_core.specs.Headline.{told_by, HeadlineOn}
 use Rattle.session_core.specs.Report.{tree_behind}
 use Rattle.session_core.specs.declared.report.SessionReport.{SessionReport}
 use Rattle.session_core.proofs.Headlines.{latest_shown}
+use Rattle.session_core.proofs.OpenedTrees.{is_born, told_tree}
 
 -- ---- the transaction of an entry
 
@@ -75,7 +77,7 @@ last_is h f i n (suc N) some low wrote = by (h.writes (suc N) f i) refl (λ belo
 
 -- ---- an entry that changed a file is noted so
 
-module _ (s : Opening) (h : Host VolumeNow Call Reply) (n f : ℕ) where
+module _ (s : Opening) (born : AreBornBefore (s.first + 1) s.tree.tree) (h : Host VolumeNow Call Reply) (n f : ℕ) where
   abbrev before : PlainTree
   before = tree_after (call_over s).model h.history n
 
@@ -102,8 +104,8 @@ module _ (s : Opening) (h : Host VolumeNow Call Reply) (n f : ℕ) where
       by false is =
           absurd (false≢true (
           sym differs
-          ∙ ap (λ tree. same_file (at_number tree f) (at_number (tree_at s h (suc n)) f)) (sym (tree_told s h n))
-          ∙ ap (λ tree. same_file (at_number before.tree f) (at_number tree f)) (sym (tree_told s h (suc n)))
+          ∙ ap (λ tree. same_file (at_number tree f) (at_number (tree_at s h (suc n)) f)) (sym (tree_told s born h n))
+          ∙ ap (λ tree. same_file (at_number before.tree f) (at_number tree f)) (sym (tree_told s born h (suc n)))
           ∙ noted (slice_get h.history n) refl is))
 
 -- ---- what is shown
@@ -118,7 +120,7 @@ module _ (s : SessionScript) (end : EndState) (r : SessionReport) (is : Headline
   some (suc x) wrote = omega arith
 
   mapped : told.maps (told.cut r.found) f i ≡ true
-  mapped = ap (λ tree. is_some (block_at tree f i)) (tree_told (opening_of s) end.host (told.cut r.found)) ∙ there
+  mapped = ap (λ tree. is_some (block_at tree f i)) (told_tree s end.host (told.cut r.found)) ∙ there
 
   abbrev alters : ℕ → Bool
   alters e = alters_at (call_over (opening_of s)).model end.host.history e f
@@ -140,7 +142,7 @@ module _ (s : SessionScript) (end : EndState) (r : SessionReport) (is : Headline
             sym (last.none (suc x.0) (omega (arith, le)) (omega (arith, within)))
             ∙ over x.0
             ∙ some_has alters (told.cut x.0) (told.cut (suc x.0) - told.cut x.0) (suc m) lower (omega (arith, lower, upper))
-            (altered (opening_of s) end.host m f changed)))
+            (altered (opening_of s) (is_born s) end.host m f changed)))
       ]
 
   pub shown : (v : ℕ) × (n ≤ v) × (block_at is.prefix.tree (is.prefix.alike.to f) i ≡ Some (content_at (opening_of s) end.host v f i))
@@ -150,4 +152,4 @@ module _ (s : SessionScript) (end : EndState) (r : SessionReport) (is : Headline
       let low : n ≤ last_write told f i (told.cut k.0) =
       last_is told f i n (told.cut k.0) (some n wrote) (let up = behind k.0 k.1 in omega (arith, before, up)) wrote in
       let later : last_write told f i (told.cut k.0) ≤ x.version = x.later in
-      (x.version, omega (arith, low, later), x.shown ∙ ap Some (ap (λ tree. unwrap_or (block_at tree f i) []) (tree_told (opening_of s) end.host x.version)))
+      (x.version, omega (arith, low, later), x.shown ∙ ap Some (ap (λ tree. unwrap_or (block_at tree f i) []) (told_tree s end.host x.version)))

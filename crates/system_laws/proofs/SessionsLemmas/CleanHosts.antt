@@ -1,5 +1,5 @@
 -- What the host is promised of clean volumes: all that it is promised of volumes, and that they stay clean.
-use Rattle.std.specs.Prelude.{◌≡◌, ℕ, true, false, length, nat_lt, None}
+use Rattle.std.specs.Prelude.{◌≡◌, ◌+◌, ℕ, true, false, length, nat_lt, None}
 use Rattle.std.proofs.Common.{sym, ap, subst, ◌∙◌}
 use Rattle.blk_base.specs.Members.{In}
 use Rattle.tree_model.specs.declared.call.Reply.{Reply}
@@ -33,6 +33,7 @@ over_clean s = record {
   base = (over s).base;
   format = (over s).format;
   reserved = (over s).reserved;
+  freeable = (over s).freeable;
 }
 
 -- a volume in use of a session that stands for a tree and is clean
@@ -62,7 +63,7 @@ module _ (s : Opening) where
   module _ (v : VolumeNow) (t : PlainTree) (h : StandsClean s v t) (n r : ℕ) (c : ByteCall) (none : refusal v c.call ≡ None)
       (enough : would_change v c.call ≡ true → nat_lt (length (zones_of v).free) (needed v c.call) ≡ false) where
     abbrev number : ℕ
-    number = number_in (tree_of_now v) n
+    number = number_in (tree_of_now v) (s.first + n)
 
     abbrev w : VolumeNow
     w = (called v number r c.call).change.volume
@@ -72,9 +73,9 @@ module _ (s : Opening) where
     clean_after =
         let after = stands_after s v t h.stands n r c none enough in
         subst (λ g. IsClean g w.contents.blocks) (h.stands.geometry ∙ sym after.geometry)
-        (call_clean v number r c.call (finds_room v h.stands.plain n c.call none enough) h.clean)
+        (call_clean v number r c.call (finds_room v h.stands.plain (s.first + n) c.call none enough) h.clean)
 
-    applied : StandsClean s (done_as v n r c.call).volume ((over s).model.call t n c) × Tells (over_clean s) t n r c v (done_as v n r c.call).volume (done_as v n r c.call).touched
+    applied : StandsClean s (done_as v (s.first + n) r c.call).volume ((over s).model.call t n c) × Tells (over_clean s) t n r c v (done_as v (s.first + n) r c.call).volume (done_as v (s.first + n) r c.call).touched
     unfolding done_as
     applied =
         let told = tells_host s v t h.stands n r c none enough in (

@@ -64,7 +64,9 @@ module _ (s : Opening) (v : VolumeNow) (ring : LogRing) (limit : ℕ) (programs 
       record {
         stands = record { stands = base.stands; clean = clean };
         metadata = base.metadata;
-        base = record { start = base.base.start; reserved = base.base.reserved; plain = base.base.plain };
+        freeable = base.freeable;
+        pages = base.pages;
+        base = record { start = base.base.start; reserved = base.base.reserved; freeable = base.base.freeable; plain = base.base.plain };
         log = base.log;
       }
 

@@ -98,7 +98,7 @@ module _ (s : Opening) (log : Ring) where
       }
 
       abbrev N : ℕ
-      N = number_in (tree_of_now volume) (length h.history + 1)
+      N = number_in (tree_of_now volume) (s.first + (length h.history + 1))
 
       -- what a call that is done adds
       module _ (accepted : refusal volume c.call ≡ None) (free : hindrance (over s).model (over s).setup h c ≡ None) where
@@ -106,7 +106,7 @@ module _ (s : Opening) (log : Ring) where
         stands = sound.rules.2.images.0.stands
 
         finds : FindsRoom volume N c.call
-        finds = finds_room volume stands.plain (length h.history + 1) c.call accepted (enough (over s).model (over s).setup h c free)
+        finds = finds_room volume stands.plain (s.first + (length h.history + 1)) c.call accepted (enough (over s).model (over s).setup h c free)
 
         abbrev blocks : List ℕ
         blocks = (called volume N h.journal.running.number c.call).change.touched.blocks
