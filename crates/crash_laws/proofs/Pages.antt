@@ -102,6 +102,7 @@ module _ {A : Type 0} {program : Reads A} {h : History A} {s : Session} {m : Med
       let body = same_body s.requests o.0 (disk_of m.image to.0) (h.content f i w.0) (body_of_origin closed to.0 o.0 o.1) (pages.content o.0 f i w.0 to.0 w.1) in
       record {
         version = w.0;
+        mapped = pages.there o.0 f i w.0 to.0 w.1;
         source = Sent o.0 w.1.note (subst (λ z. HasOrigin m.origins z o.0) at o.1);
         body = subst (λ z. disk_of m.image z ≡ h.content f i w.0) at body;
         later = w.2;
@@ -140,6 +141,7 @@ module _ {A : Type 0} {program : Reads A} {h : History A} {s : Session} {m : Med
         (put_of_volume rules.fits rules.images o.0 (place_at program h s 0 f i) (pages.opened f i there).0 put))
         (λ none. record {
           version = 0;
+          mapped = there;
           source = Opened refl (subst (λ z. (o : ℕ) → HasOrigin m.origins z o → ⊥) at none.0);
           body = subst (λ z. disk_of m.image z ≡ h.content f i 0) at (none.1 ∙ (pages.opened f i there).1);
           later = omega arith;
@@ -159,6 +161,7 @@ module _ {A : Type 0} {program : Reads A} {h : History A} {s : Session} {m : Med
             let body = same_body s.requests o (disk_of m.image (place_at program h s 0 f i)) (h.content f i w) (body_of_origin closed (place_at program h s 0 f i) o held) (pages.content o f i w (place_at program h s 0 f i) t) in
             record {
               version = w;
+              mapped = pages.there o f i w (place_at program h s 0 f i) t;
               source = Sent o n (subst (λ z. HasOrigin m.origins z o) at held);
               body = subst (λ z. disk_of m.image z ≡ h.content f i w) at body;
               later = omega arith;

@@ -75,7 +75,7 @@ module _ {A : Type 0} {program : Reads A} {h : History A} {s : Session} {m : Med
         (calm_within f i n c.version (h.cut F) (h.cut F) calm later (omega arith))
         (calm_within f i (h.cut held.K) (h.cut F) c.version c.version c.calm up (omega arith)) in
         let more = t.later in
-        inl (there, record { version = t.version; source = t.source; body = t.body; later = omega arith; low = t.low }))
+        inl (there, record { version = t.version; mapped = t.mapped; source = t.source; body = t.body; later = omega arith; low = t.low }))
         (held.pairs f i n pair))
         (superseded_or_calm h f i n (h.cut F))
       where

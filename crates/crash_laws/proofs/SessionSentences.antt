@@ -51,6 +51,7 @@ module _ (run : Run) (rules : KeepsRules run)
       let zone = zone_is names birth index path in
       record {
         version = t.version;
+        mapped = t.mapped;
         source = subst (IsOf run.session m birth index t.version) (sym zone) t.source;
         body =
             ap (disk_of recovered) zone

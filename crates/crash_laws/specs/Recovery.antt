@@ -1,5 +1,5 @@
 -- What recovery makes of a medium: the log that it reads, the blocks that it leaves, and the page that is there.
-use Rattle.std.specs.Prelude.{◌≡◌, ℕ, ◌+◌, ◌<◌, ◌≤◌, List, ◌-◌}
+use Rattle.std.specs.Prelude.{◌≡◌, ℕ, ◌+◌, ◌<◌, ◌≤◌, true, List, ◌-◌}
 use Rattle.order_model.specs.declared.note.Note.TheVariants.{Page}
 use Rattle.order_model.specs.OrderClosed.{HasOrigin, IsKept}
 use Rattle.volume_ops.specs.Volume.{disk_of}
@@ -38,9 +38,10 @@ pub data IsOf (s : Session) (m : Medium) (f i version z : ℕ) : Type 0 where
   Sent : (origin : ℕ) → HasNote s origin (Page f i version) → HasOrigin m.origins z origin → IsOf s m f i version z
   Opened : version ≡ 0 → ((origin : ℕ) → HasOrigin m.origins z origin → ⊥) → IsOf s m f i version z
 
--- the medium has at the page's block of the image of F this version of it or a later one
+-- the medium has at the page's block of the image of F this version of it or a later one, in which the file has that block
 pub record HasVersion {A : Type 0} (program : Reads A) (h : History A) (s : Session) (m : Medium) (F f i v : ℕ) : Type 0 where
   pub version : ℕ
+  pub mapped : h.maps version f i ≡ true
   pub source : IsOf s m f i version (place_at program h s F f i)
   pub body : disk_of m.image (place_at program h s F f i) ≡ h.content f i version
   pub later : v ≤ version

@@ -61,9 +61,10 @@ pub record KeepsRules (run : Run) : Type 0 where
 -- ---- the sentences, of a medium with F kept commit blocks and the blocks that recovery made of it
 
 -- Block `index` of the file to which a path leads in the tree after transaction F is at a block which the medium has
--- from a page request of it with at least this version, or as it was in the base image.
+-- from a page request of it with at least this version, or as it was in the base image; the file has the block in that version.
 pub record HasVersionOnPath (run : Run) (m : Medium) (recovered : List (List ℕ)) (names : List (List ℕ)) (birth index atleast : ℕ) : Type 0 where
   pub version : ℕ
+  pub mapped : (history run).maps version birth index ≡ true
   pub source : IsOf run.session m birth index version (zone_on_path run.geometry recovered names index)
   pub body : disk_of recovered (zone_on_path run.geometry recovered names index) ≡ (history run).content birth index version
   pub no_older : atleast ≤ version
