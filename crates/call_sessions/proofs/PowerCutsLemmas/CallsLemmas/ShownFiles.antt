@@ -145,6 +145,7 @@ module _ (g : Geometry) (journal : ℕ) (wide : Bool) (closed : List Transaction
   is_shown f i n mapped x has = record {
     version = x.version;
     later = x.later;
+    mapped = x.mapped;
     shown = block_shown f i n mapped x has;
     source = shown_source x.version (sym (files.places f i)) x.source;
   }

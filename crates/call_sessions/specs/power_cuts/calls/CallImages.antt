@@ -85,11 +85,12 @@ place_of g journal wide h m f i =
     told.place (answer (disk_of (recovered_image m.image)) (call_over (opening_on g journal wide)).program) (told.cut (kept_count g journal wide h m)) f i
 
 -- The tree of a recovered volume, into whose births `to` leads, has this block of the file in a version that is no older
--- than entry n; and the medium has at the block's place the request that carried this very version, or what was there
--- when the session began.
+-- than entry n, and in which the file has the block; and the medium has at the block's place the request that carried this
+-- very version, or what was there when the session began.
 pub record IsShown (g : Geometry) (journal : ℕ) (wide : Bool) (h : Host VolumeNow Call Reply) (m : Medium) (tree : Tree) (to : ℕ → ℕ) (f i n : ℕ) : Type 0 where
   pub version : ℕ
   pub later : n ≤ version
+  pub mapped : (history_of g journal wide h).maps version f i ≡ true
   pub shown : block_at tree (to f) i ≡ Some ((history_of g journal wide h).content f i version)
   pub source : IsOf (submitted_by g journal wide [] h) m f i version (place_of g journal wide h m f i)
 
