@@ -2,6 +2,7 @@ pub mod Made
 pub mod Cut
 pub mod OpenedTrees
 pub mod Headlines
+pub mod NewestBlocks
 pub mod Seen
 pub mod Replaced
 pub mod CallNames
