@@ -2,4 +2,4 @@ pub mod CoveredCalls
 pub mod Meant
 pub mod Metadata
 pub mod Replies
-pub mod Versions
+pub mod ShownVersions

@@ -21,7 +21,7 @@ use Rattle.minix_host.specs.Sessions.{Stands}
 use Rattle.call_sessions.specs.Sessions.{call_over}
 use Rattle.call_sessions.specs.promises.Answers.{AnsweredAt, WasAnswered, node_in}
 use Rattle.call_sessions.specs.promises.Entries.{IsBeginOf}
-use Rattle.call_sessions.specs.promises.Trees.{tree_at, content_at}
+use Rattle.call_sessions.specs.promises.Trees.{tree_at}
 use Rattle.session_grammar.specs.declared.session_script.SessionScript.{SessionScript}
 use Rattle.session_core.specs.CallNames.{covers_data_alone}
 use Rattle.session_core.specs.Core.{EndState, opening_of}
@@ -30,7 +30,8 @@ use Rattle.session_core.specs.declared.report.SessionReport.{SessionReport}
 use Rattle.session_core.proofs.CallNames.{begun, durable, data_alone, all}
 use Rattle.session_core.proofs.Headlines.{all_shown}
 use Rattle.session_core.proofs.OpenedTrees.{told_tree}
-use Rattle.system_laws.specs.covered.Calls.{HasPath, of_fsync, of_fdatasync, of_fbarrier, of_fdatabarrier, IsOnFile, on_all, on_path, Counts, synced, later, IsAnsweredOk, IsThereSince}
+use Rattle.system_laws.specs.covered.Calls.{HasPath, of_fsync, of_fdatasync, of_fbarrier, of_fdatabarrier, IsOnFile, on_all, on_path, Counts, synced, later, IsAnsweredOk, IsThereSince, IsShownFrom}
+use Rattle.system_laws.proofs.CoveredLemmas.ShownVersions.{shown_from}
 
 -- a call began at one place alone
 only : (h : List (Entry Call Reply)) (i j e t : ℕ) (c : Call) → IsBeginOf h i e t c → IsBeginOf h j e t c → i ≡ j
@@ -106,13 +107,13 @@ module _ (s : SessionScript) (end : EndState) (r : SessionReport) (is : Headline
           ∙ node_led (tree_at (opening_of s) end.host b) c path f (path_same has) (birth_led (tree_at (opening_of s) end.host b) path names f _ named leads.path leads.stands)
 
   pub blocks : (f i n : ℕ) → IsOnFile (tree_at (opening_of s) end.host b) c f → n ≤ b → IsThereSince s end r f i n
-      → (v : ℕ) × (n ≤ v) × (block_at is.prefix.tree (is.prefix.alike.to f) i ≡ Some (content_at (opening_of s) end.host v f i))
+      → IsShownFrom s end r is f i n
   blocks f i n on before there =
       by (shows.pages f i n (on_it f on, (let number = w.number in let at = place in omega (arith, number, at, before)), there.wrote))
     where
       by : IsShownBy s end (medium_of r) is.prefix.tree is.prefix.alike.to f i n ⊎ IsSuperseded (told_by s end) f i n ((told_by s end).cut r.found)
-          → (v : ℕ) × (n ≤ v) × (block_at is.prefix.tree (is.prefix.alike.to f) i ≡ Some (content_at (opening_of s) end.host v f i))
-      by (inl x) = (x.version, x.later, x.shown ∙ ap Some (ap (λ tree. unwrap_or (block_at tree f i) []) (told_tree s end.host x.version)))
+          → IsShownFrom s end r is f i n
+      by (inl x) = shown_from s end r is f i n x
       by (inr x) =
           absurd (false≢true (sym x.unmapped.after ∙ ap (λ tree. is_some (block_at tree f i)) (told_tree s end.host x.entry)
           ∙ there.stays x.entry (let low = x.later in omega (arith, low)) x.within))

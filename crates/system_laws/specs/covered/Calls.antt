@@ -17,7 +17,7 @@ use Rattle.call_sessions.specs.promises.Trees.{tree_at}
 use Rattle.session_grammar.specs.declared.session_script.SessionScript.{SessionScript}
 use Rattle.session_core.specs.CallNames.{is_barrier_or_sync, is_sync_call, covers_all_files}
 use Rattle.session_core.specs.Core.{EndState, opening_of}
-use Rattle.session_core.specs.Headline.{medium_of, told_by, HasLaterKept}
+use Rattle.session_core.specs.Headline.{medium_of, told_by, HasLaterKept, HeadlineOn}
 use Rattle.session_core.specs.declared.report.SessionReport.{SessionReport}
 
 -- A barrier or sync call of thread t began at place b, and was answered Ok at place e.
@@ -50,3 +50,10 @@ module _ (s : SessionScript) (end : EndState) (r : SessionReport) where
   pub record IsThereSince (f i n : ℕ) : Type 0 where
     pub wrote : (told_by s end).writes n f i ≡ true
     pub stays : (v : ℕ) → n ≤ v → v ≤ (told_by s end).cut r.found → is_some (block_at (tree_at (opening_of s) end.host v) f i) ≡ true
+
+  -- The recovered tree has this block of the file just as the tree after some entry from n on, which has it.
+  pub record IsShownFrom (is : HeadlineOn s end r) (f i n : ℕ) : Type 0 where
+    pub version : ℕ
+    pub later : n ≤ version
+    pub there : is_some (block_at (tree_at (opening_of s) end.host version) f i) ≡ true
+    pub shown : block_at is.prefix.tree (is.prefix.alike.to f) i ≡ block_at (tree_at (opening_of s) end.host version) f i

@@ -16,7 +16,7 @@ ghost use Rattle.tree_model.specs.Histories.{block_at, same_file};
 ghost use Rattle.tree_model.specs.Maps.{at_number};
 ghost use Rattle.tree_model.specs.Trees.{directory_links, node_of_path, AreAlike};
 ghost use Rattle.volume_steps.specs.Now.{room_of};
-ghost use Rattle.call_sessions.specs.promises.Trees.{tree_at, content_at};
+ghost use Rattle.call_sessions.specs.promises.Trees.{tree_at};
 ghost use Rattle.session_grammar.specs.declared.session_script.SessionScript.{SessionScript};
 ghost use Rattle.session_core.specs.CallEnds.{IsTreesReply};
 ghost use Rattle.session_core.specs.CallNames.{is_barrier_or_sync, covers_data_alone, covers_all_files};
@@ -26,7 +26,7 @@ ghost use Rattle.session_core.specs.Core.{EndState, opening_of};
 ghost use Rattle.session_core.specs.Headline.{told_by, HeadlineOn};
 ghost use Rattle.session_core.specs.Report.{tree_behind};
 ghost use Rattle.session_core.specs.declared.report.SessionReport.{SessionReport};
-ghost use Rattle.system_laws.specs.covered.Calls.{Counts, HasPath, IsAnsweredOk, IsOnFile, IsThereSince};
+ghost use Rattle.system_laws.specs.covered.Calls.{Counts, HasPath, IsAnsweredOk, IsOnFile, IsShownFrom, IsThereSince};
 
 /// A law, which does nothing when it is called: where a write survived, each order-preserving write survived that was
 /// submitted before it with a barrier or a flush at or behind that one and before this one, and each write at all with a flush
@@ -51,8 +51,8 @@ pub fn each_barrier_or_sync_call_is_meant()
 /// A law, which does nothing when it is called: a barrier or sync call was answered Ok; and it is a sync call, or something
 /// that was done after its answer survived. Unless it covers data alone, the tree that was recovered has the paths and the
 /// metadata of a tree at or behind its begin. And each block that was written before its begin, to the file to which its path
-/// led then, or of `sync` to any file, is there in a version that is no older than that write, if no call of a found
-/// transaction removed it.
+/// led then, or of `sync` to any file, is there in a version that is no older than that write, and of a tree that has the
+/// block, if no call of a found transaction removed it.
 pub fn calls_keep_what_they_cover()
     ensures metadata { (s : SessionScript) (end : EndState) (r : SessionReport) (is : HeadlineOn s end r) (b e t : ℕ) (c : Call) →
         IsAnsweredOk end.host b e t c → Counts s end r e c → covers_data_alone c ≡ false →
@@ -60,17 +60,18 @@ pub fn calls_keep_what_they_cover()
     ensures blocks { (s : SessionScript) (end : EndState) (r : SessionReport) (is : HeadlineOn s end r) (b e t : ℕ) (c : Call) →
         IsAnsweredOk end.host b e t c → Counts s end r e c →
         (f i n : ℕ) → IsOnFile (tree_at (opening_of s) end.host b) c f → n ≤ b → IsThereSince s end r f i n →
-        (v : ℕ) × (n ≤ v) × (block_at is.prefix.tree (is.prefix.alike.to f) i ≡ Some (content_at (opening_of s) end.host v f i)) }
+        IsShownFrom s end r is f i n }
 {}
 
 /// A law, which does nothing when it is called: a block that a file has after the calls of the transactions that were
 /// found is there in a version that is no older than any write of it up to the last of these calls which changed the size
-/// or the mapped blocks of the file. So no file shows zeros or older bytes where its recovered size or map came later.
+/// or the mapped blocks of the file, and of a tree that has the block. So no file shows zeros or older bytes where its
+/// recovered size or map came later.
 pub fn blocks_are_as_new_as_their_file()
     ensures { (s : SessionScript) (end : EndState) (r : SessionReport) (is : HeadlineOn s end r) (f i m n : ℕ) →
         is_some (block_at (tree_behind (opening_of s) end.host r.found) f i) ≡ true → (told_by s end).writes n f i ≡ true →
         same_file (at_number (tree_at (opening_of s) end.host m) f) (at_number (tree_at (opening_of s) end.host (suc m)) f) ≡ false → n ≤ suc m → suc m ≤ (told_by s end).cut r.found →
-        (v : ℕ) × (n ≤ v) × (block_at is.prefix.tree (is.prefix.alike.to f) i ≡ Some (content_at (opening_of s) end.host v f i)) }
+        IsShownFrom s end r is f i n }
 {}
 
 /// A law, which does nothing when it is called: each path that leads to a file after the calls of the transactions that
