@@ -16,58 +16,58 @@ use Rattle.session_core.proofs.CallNames.{durable, data_alone}
 use Rattle.app_trees.specs.Outcomes.{Shows, Holds, Grows, IsAsNew}
 use Rattle.app_trees.specs.Pairs.{Pair, ArePairs}
 use Rattle.app_trees.specs.Runs.{IsMoved, IsReplacing}
+use Rattle.session_core.proofs.NewestBlocks.{newest}
 use Rattle.app_trees.proofs.Kept.{old_or_new}
 use Rattle.app_trees.proofs.Moves.{replacing}
 use Rattle.app_trees.proofs.Spools.{there_is_whole, moved_whole}
 use Rattle.app_trees.proofs.Grown.{grown_holds}
 use Rattle.app_trees.proofs.Ordered.{pairs_kept}
-use Rattle.app_laws.specs.Left.{room_for, trees_of, left_of, SendsMapped, IsBarred, IsLogged, AreLogged}
-use Rattle.app_laws.proofs.LeftFacts.{plain, has_history, synced, barred, barred_by, recovered}
-use Rattle.app_laws.proofs.AsNew.{as_new}
+use Rattle.app_laws.specs.Left.{room_for, trees_of, left_of, IsBarred, IsLogged, AreLogged}
+use Rattle.app_laws.proofs.LeftFacts.{plain, has_history, left_shown, synced, barred, barred_by, recovered}
 use Rattle.app_laws.proofs.Later.{Later, tells}
 
-module _ (s : SessionScript) (end : EndState) (r : SessionReport) (is : HeadlineOn s end r) (sends : SendsMapped s end) where
+module _ (s : SessionScript) (end : EndState) (r : SessionReport) (is : HeadlineOn s end r) where
   pub replaced : (path other : List ℕ) (fresh names : List (List ℕ)) (old a : ℕ) (before : File) (new b p : ℕ) (after : File) → IsReplacing (room_for s) (trees_of s end) path other fresh names old a before new b p after →
       (e : ℕ) (sync : IsBarred s end r is old a e) → is_sync_call sync.call ≡ true → covers_data_alone sync.call ≡ false → (d : ℕ) → IsBarred s end r is new b d → d < p →
       Shows is.prefix.tree names before ⊎ Shows is.prefix.tree names after
   replaced path other fresh names old a before new b p after x e sync named whole d barrier low =
       let kind : is_durable (kind_of sync.call) ≡ true = durable sync.call ∙ named in
-      let made = recovered s end r is sends old a e sync kind (data_alone sync.call ∙ whole) in
+      let made = recovered s end r is old a e sync kind (data_alone sync.call ∙ whole) in
       old_or_new (left_of s end r is) (has_history s end r is) names p old a before new b after
       (replacing (room_for s) (trees_of s end) (plain s end r is) path other fresh names old a before new b p after x (left_of s end r is) (λ n. refl) made)
-      (λ up. synced s end r is sends old a e sync kind)
-      (λ past. barred_by s end r is sends new b d barrier p low past)
+      (λ up. synced s end r is old a e sync kind)
+      (λ past. barred_by s end r is new b d barrier p low past)
 
   pub spooled : (path other : List ℕ) (fresh names : List (List ℕ)) (new b p : ℕ) (g : File) → IsMoved (room_for s) (trees_of s end) path other fresh names new b p g →
       (d : ℕ) → IsBarred s end r is new b d → d < p → ((v birth : ℕ) → v ≤ p → node_of_path (trees_of s end v) names ≡ Ok birth → ⊥) → IsOk (node_of_path is.prefix.tree names) → Shows is.prefix.tree names g
   spooled path other fresh names new b p g x d barrier low none there =
       there_is_whole (room_for s) (trees_of s end) (plain s end r is) (left_of s end r is) (λ n. refl) (has_history s end r is) path other fresh names new b p g x none
-      (λ past. barred_by s end r is sends new b d barrier p low past) there
+      (λ past. barred_by s end r is new b d barrier p low past) there
 
   -- a sync call of any file behind the rename
   pub spooled_there : (path other : List ℕ) (fresh names : List (List ℕ)) (new b p : ℕ) (g : File) → IsMoved (room_for s) (trees_of s end) path other fresh names new b p g →
       (d : ℕ) → IsBarred s end r is new b d → d < p → (any a e : ℕ) (sync : IsBarred s end r is any a e) → is_sync_call sync.call ≡ true → covers_data_alone sync.call ≡ false → p < a → Shows is.prefix.tree names g
   spooled_there path other fresh names new b p g x d barrier low any a e sync named whole behind =
-      let made = recovered s end r is sends any a e sync (durable sync.call ∙ named) (data_alone sync.call ∙ whole) in
+      let made = recovered s end r is any a e sync (durable sync.call ∙ named) (data_alone sync.call ∙ whole) in
       let past : p < (left_of s end r is).cut = omega (arith, made, behind) in
       moved_whole (room_for s) (trees_of s end) (plain s end r is) (left_of s end r is) (λ n. refl) (has_history s end r is) path other fresh names new b p g x past
-      (barred_by s end r is sends new b d barrier p low past)
+      (barred_by s end r is new b d barrier p low past)
 
   -- ---- a file that grew with each write needs no barrier
 
   new_blocks : IsAsNew (left_of s end r is)
-  new_blocks f i m n there wrote changed before found = as_new s end r is f i m n there wrote changed before found sends
+  new_blocks f i m n there wrote changed before found = left_shown s end r is f i n (newest s end r is f i m n there wrote changed before found)
 
   pub replaced_grown : (path other : List ℕ) (fresh names : List (List ℕ)) (old a : ℕ) (before : File) (new b p : ℕ) (after : File) → IsReplacing (room_for s) (trees_of s end) path other fresh names old a before new b p after →
       (e : ℕ) (sync : IsBarred s end r is old a e) → is_sync_call sync.call ≡ true → covers_data_alone sync.call ≡ false → Grows (left_of s end r is) new b →
       Shows is.prefix.tree names before ⊎ Shows is.prefix.tree names after
   replaced_grown path other fresh names old a before new b p after x e sync named whole grows =
       let kind : is_durable (kind_of sync.call) ≡ true = durable sync.call ∙ named in
-      let made = recovered s end r is sends old a e sync kind (data_alone sync.call ∙ whole) in
+      let made = recovered s end r is old a e sync kind (data_alone sync.call ∙ whole) in
       let order = x.moved.order in
       old_or_new (left_of s end r is) (has_history s end r is) names p old a before new b after
       (replacing (room_for s) (trees_of s end) (plain s end r is) path other fresh names old a before new b p after x (left_of s end r is) (λ n. refl) made)
-      (λ up. synced s end r is sends old a e sync kind)
+      (λ up. synced s end r is old a e sync kind)
       (λ past. grown_holds (left_of s end r is) (has_history s end r is) new_blocks new b grows (omega (arith, order, past)))
 
   -- ---- a log and its pages
@@ -83,7 +83,7 @@ module _ (s : SessionScript) (end : EndState) (r : SessionReport) (is : Headline
           low = x.low;
           barred = λ later.
               let same : suc x.at ≡ x.at + 1 = omega arith in
-              barred s end r is sends log (pair k).covered x.at x.barrier (subst (λ q. HasLaterKept s end (medium_of r) q) (x.number ∙ same) later);
+              barred s end r is log (pair k).covered x.at x.barrier (subst (λ q. HasLaterKept s end (medium_of r) q) (x.number ∙ same) later);
           some = x.some;
           newer = x.newer;
         };

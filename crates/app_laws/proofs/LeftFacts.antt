@@ -27,15 +27,16 @@ use Rattle.minix_host.specs.Sessions.{Stands}
 use Rattle.minix_host.proofs.Numbered.{all_born}
 use Rattle.call_sessions.specs.Sessions.{call_over, acting_call}
 use Rattle.call_sessions.specs.promises.Answers.{AnsweredAt}
-use Rattle.call_sessions.proofs.PromisesLemmas.SessionTrees.{tree_told}
 use Rattle.session_grammar.specs.declared.session_script.SessionScript.{SessionScript}
 use Rattle.session_core.specs.Core.{EndState, opening_of}
-use Rattle.session_core.specs.Headline.{medium_of, told_by, HasLaterKept, HeadlineOn}
+use Rattle.session_core.specs.Headline.{medium_of, told_by, HasLaterKept, IsShownBy, HeadlineOn}
 use Rattle.session_core.specs.declared.report.SessionReport.{SessionReport}
 use Rattle.session_core.proofs.Headlines.{all_shown}
+use Rattle.session_core.proofs.NewestBlocks.{shown_there, shown_as}
+use Rattle.session_core.proofs.OpenedTrees.{is_born, told_tree as session_tree}
 use Rattle.app_trees.specs.Outcomes.{Outcome, HasHistory, IsShown, IsGone, Holds}
 use Rattle.app_trees.specs.Runs.{ArePlain}
-use Rattle.app_laws.specs.Left.{room_for, trees_of, left_of, SendsMapped, IsBarred}
+use Rattle.app_laws.specs.Left.{room_for, trees_of, left_of, IsBarred}
 
 -- ---- the number of a call does not count for what it writes
 
@@ -62,10 +63,6 @@ any_number room tree n m (calls.Fbarrier p) f i = refl
 any_number room tree n m (calls.Fdatabarrier p) f i = refl
 any_number room tree n m calls.Sync f i = refl
 
-pub some_is : (x : Option (List ℕ)) → is_some x ≡ true → Some (unwrap_or x []) ≡ x
-some_is (Some y) e = refl
-some_is None e = absurd (false≢true e)
-
 module _ (s : SessionScript) (end : EndState) (r : SessionReport) (is : HeadlineOn s end r) where
   abbrev T : ℕ → Tree
   T = trees_of s end
@@ -77,12 +74,12 @@ module _ (s : SessionScript) (end : EndState) (r : SessionReport) (is : Headline
   machine_tree n = (views.tree_after (call_over (opening_of s)).model history n).tree
 
   told_tree : (n : ℕ) → machine_tree n ≡ T n
-  told_tree n = tree_told (opening_of s) end.host n
+  told_tree n = session_tree s end.host n
 
   pub plain : ArePlain T
   plain = record {
     plain = λ n. subst IsPlain (told_tree n) (views.tree_after (call_over (opening_of s)).model history n).plain;
-    born = λ n. let next : n + 1 ≡ suc n = omega arith in subst (λ t. AreBornBefore (suc n) t) (told_tree n) (subst (λ k. AreBornBefore k (machine_tree n)) next (all_born (λ (c : Call). c) (opening_of s).geometry history n));
+    born = λ n. let next : 0 + suc n ≡ suc n = omega arith in subst (λ t. AreBornBefore (suc n) t) (told_tree n) (subst (λ k. AreBornBefore k (machine_tree n)) next (all_born (λ (c : Call). c) (opening_of s).geometry (opening_of s).tree (opening_of s).first (is_born s) history n));
   }
 
   -- ---- one entry
@@ -128,9 +125,18 @@ module _ (s : SessionScript) (end : EndState) (r : SessionReport) (is : Headline
       empty zero i = refl
       empty (suc f) i = ap (λ n. block_in n i) (at_put_number_apart [] 0 (nodes.Directory (record { parent = 0; width = (opening_of s).geometry.width; slots = 2; names = [] })) (suc f) (λ e. let never : suc f ≡ 0 = e in omega (arith, never)))
 
+  -- what is shown is of a tree that has it
+  pub left_shown : (f i n : ℕ) → IsShownBy s end (medium_of r) is.prefix.tree is.prefix.alike.to f i n → IsShown o f i n
+  left_shown f i n y = record {
+    version = y.version;
+    later = y.later;
+    mapped = shown_there s end (medium_of r) is.prefix.tree is.prefix.alike.to f i n y;
+    shown = shown_as s end (medium_of r) is.prefix.tree is.prefix.alike.to f i n y;
+  }
+
   -- ---- what a call holds
 
-  module _ (sends : SendsMapped s end) (f b e : ℕ) (x : IsBarred s end r is f b e) where
+  module _ (f b e : ℕ) (x : IsBarred s end r is f b e) where
     abbrev begun : Begun
     begun = (is.answered e x.thread x.call x.ok).begun
 
@@ -141,14 +147,7 @@ module _ (s : SessionScript) (end : EndState) (r : SessionReport) (is : Headline
     holds settled i n low wrote =
         let begin = x.begin in
         elim ((all_shown s end r is begun settled).pages f i n (x.on, omega (arith, low, begin), wrote)) [
-          | inl y ↦ (
-              let mapped : maps_block (T y.version) f i ≡ true = sends y.request f i y.version y.note in
-              inl (record {
-                version = y.version;
-                later = y.later;
-                mapped = mapped;
-                shown = y.shown ∙ ap Some (ap (λ tree. unwrap_or (block_at tree f i) []) (told_tree y.version)) ∙ some_is (block_at (T y.version) f i) mapped;
-              }))
+          | inl y ↦ inl (left_shown f i n y)
           | inr y ↦ inr (record { entry = y.entry; later = y.later; within = y.within; unmapped = ap (λ tree. maps_block tree f i) (sym (told_tree y.entry)) ∙ y.unmapped.after })
         ]
 

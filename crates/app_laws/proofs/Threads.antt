@@ -35,7 +35,7 @@ use Rattle.app_trees.specs.Runs.{IsRenamed, IsReplacing}
 use Rattle.app_trees.proofs.Moves.{not_replaced}
 use Rattle.app_trees.proofs.Programs.{program_replaces, not_renamed}
 use Rattle.app_trees.proofs.Sequences.{follows_all}
-use Rattle.app_laws.specs.Left.{room_for, trees_of, left_of, SendsMapped, IsBarred}
+use Rattle.app_laws.specs.Left.{room_for, trees_of, left_of, IsBarred}
 use Rattle.app_laws.proofs.Applied.{replaced}
 use Rattle.app_laws.proofs.LeftFacts.{plain, next_tree, has_history, synced, recovered}
 
@@ -49,7 +49,7 @@ module _ (s : SessionScript) (end : EndState) (r : SessionReport) (is : Headline
   number : (n : ℕ) → 0 + suc n ≡ suc n
   number n = omega arith
 
-  later : (n : ℕ) → suc n ≡ n + 1
+  later : (n : ℕ) → suc n ≡ 0 + (n + 1)
   later n = omega arith
 
   pub follows_one : (program : List Call) → s.programs ≡ program ∷ [] → Follows events program
@@ -79,20 +79,20 @@ module _ (s : SessionScript) (end : EndState) (r : SessionReport) (is : Headline
       (slice_get-map_some event_of end.host.history p (record { thread = t; call = calls.Rename path other; what = Ends (Answered replies.Ok) }) ended)
       (renamed path other p t ended)
 
-  pub program_replaced : SendsMapped s end → (program before : List Call) (path other : List ℕ) (ws more : List Call) → s.programs ≡ program ∷ [] → IsReplaceProgram program before path other ws more →
+  pub program_replaced : (program before : List Call) (path other : List ℕ) (ws more : List Call) → s.programs ≡ program ∷ [] → IsReplaceProgram program before path other ws more →
       (fresh names : List (List ℕ)) (old a : ℕ) (f : File) (new b p : ℕ) (g : File) → HasReplaced T events before ws path other fresh names old a f new b p g →
       (t : ℕ) → EndsAt end.host.history p t (calls.Rename path other) (Answered replies.Ok) →
       (e : ℕ) (sync : IsBarred s end r is old a e) → is_sync_call sync.call ≡ true → covers_data_alone sync.call ≡ false → (d : ℕ) → IsBarred s end r is new b d → d < p →
       Shows is.prefix.tree names f ⊎ Shows is.prefix.tree names g
-  program_replaced sends program before path other ws more one does fresh names old a f new b p g x t ended e sync named whole d barrier low =
-      replaced s end r is sends path other fresh names old a f new b p g (replaces program before path other ws more one does fresh names old a f new b p g x t ended) e sync named whole d barrier low
+  program_replaced program before path other ws more one does fresh names old a f new b p g x t ended e sync named whole d barrier low =
+      replaced s end r is path other fresh names old a f new b p g (replaces program before path other ws more one does fresh names old a f new b p g x t ended) e sync named whole d barrier low
 
   -- as long as the rename is not answered, the path shows the old file
-  pub program_waits : SendsMapped s end → (program before : List Call) (path other : List ℕ) (ws more : List Call) → s.programs ≡ program ∷ [] → IsReplaceProgram program before path other ws more →
+  pub program_waits : (program before : List Call) (path other : List ℕ) (ws more : List Call) → s.programs ≡ program ∷ [] → IsReplaceProgram program before path other ws more →
       (fresh names : List (List ℕ)) → path_of path ≡ Some fresh → (old a : ℕ) (f : File) → ends (take a events) ≡ length before → LeadsTo (T a) names old (nodes.File f) → ((birth : ℕ) → node_of_path (T a) fresh ≡ Ok birth → ⊥) →
       ((n t : ℕ) (y : Reply) → EndsAt end.host.history n t (calls.Rename path other) (Answered y) → ⊥) →
       (e : ℕ) (sync : IsBarred s end r is old a e) → is_sync_call sync.call ≡ true → covers_data_alone sync.call ≡ false → Shows is.prefix.tree names f
-  program_waits sends program before path other ws more one does fresh names fresh_is old a f at led free none e sync named whole =
+  program_waits program before path other ws more one does fresh names fresh_is old a f at led free none e sync named whole =
       let kind : is_durable (kind_of sync.call) ≡ true = durable sync.call ∙ named in
       not_replaced (room_for s) T (plain s end r is) path fresh names fresh_is old a f led (free old)
       (not_renamed (room_for s) T events program (follows_one program one) (λ n t c y. EndsAt end.host.history n t c (Answered y))
@@ -100,4 +100,4 @@ module _ (s : SessionScript) (end : EndState) (r : SessionReport) (is : Headline
       (λ P n first after. next_tree s end r is P n first (λ t c y there. subst (λ k. P (tree_after (room_for s) (T n) k c)) (sym (number n)) (after t c y there)))
       before path other ws more does names fresh old a at none)
       (left_of s end r is) (λ n. refl) (has_history s end r is)
-      (recovered s end r is sends old a e sync kind (data_alone sync.call ∙ whole)) (synced s end r is sends old a e sync kind)
+      (recovered s end r is old a e sync kind (data_alone sync.call ∙ whole)) (synced s end r is old a e sync kind)

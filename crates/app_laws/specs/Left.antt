@@ -1,10 +1,9 @@
 -- What a script's session and its power cut leave, as laws of applications read it.
-use Rattle.std.specs.Prelude.{◌≡◌, ℕ, suc, ◌<◌, ◌≤◌, true, List, [], Some, slice_get}
-use Rattle.order_model.specs.declared.note.Note.TheVariants.{Page}
+use Rattle.std.specs.Prelude.{◌≡◌, ℕ, suc, ◌<◌, ◌≤◌, true, List, [], Some}
 use Rattle.tree_model.specs.declared.call.Call.{Call}
 use Rattle.tree_model.specs.declared.call.Room.{Room}
 use Rattle.tree_model.specs.Calls.{Tree}
-use Rattle.tree_model.specs.Histories.{block_at, maps_block}
+use Rattle.tree_model.specs.Histories.{block_at}
 use Rattle.volume_steps.specs.Now.{room_of}
 use Rattle.crash_laws.specs.PromiseRules.{IsOn}
 use Rattle.host_machine.specs.runs.Promises.{call_of}
@@ -32,10 +31,6 @@ left_of s end r is = record {
   tree = is.prefix.tree;
   alike = is.prefix.alike;
 }
-
--- each version of a page that was sent is one in which the block was mapped
-abbrev pub SendsMapped : SessionScript → EndState → Type 0
-SendsMapped s end = (request f i v : ℕ) → slice_get end.host.journal.flush.notes request ≡ Some (Page f i v) → maps_block (trees_of s end v) f i ≡ true
 
 -- a barrier or sync call that covers file f up to entry b was answered Ok as entry e + 1
 pub record IsBarred (s : SessionScript) (end : EndState) (r : SessionReport) (is : HeadlineOn s end r) (f b e : ℕ) : Type 0 where

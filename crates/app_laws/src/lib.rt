@@ -7,5 +7,4 @@ mod laws;
 pub use laws::{
     calls_of_a_path_cover_its_file, messages_are_whole_after_recovery, new_files_need_no_barrier,
     pages_have_their_records, replaced_files_are_old_or_new, scripts_replace_files_whole,
-    sessions_send_mapped_blocks,
 };
