@@ -18,5 +18,6 @@ pub mod ReuseSteps
 pub mod RuleSteps
 pub mod Sample
 pub mod Sends
+pub mod Shared
 pub mod Steps
 pub mod RunsLemmas

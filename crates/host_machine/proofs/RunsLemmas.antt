@@ -1,5 +1,6 @@
 pub mod ActorHost
 pub mod Answered
+pub mod BegunThreads
 pub mod BuildHost
 pub mod BuildSteps
 pub mod CallGoals
@@ -11,6 +12,7 @@ pub mod CallTargets
 pub mod CallerHost
 pub mod CheckpointSteps
 pub mod FlushFacts
+pub mod FlushWaits
 pub mod GrowingFacts
 pub mod Numbers
 pub mod OkSteps

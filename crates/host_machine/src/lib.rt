@@ -18,7 +18,7 @@ pub use laws::{
     actors_keep_the_images, actors_step_on_their_parts, calls_wait_for_room_and_for_held_blocks,
     checkpoints_make_room_in_the_log, data_barriers_wait_where_they_sent_none,
     file_barriers_wait_for_no_device, freed_zones_wait_for_their_commit_block,
-    orderless_pages_are_sent_again, pages_go_where_zones_were_given_up,
-    pages_keep_the_rules_by_themselves, promises_of_volumes_can_be_kept,
-    sync_calls_wait_for_one_flush,
+    one_flush_serves_two_sync_calls, orderless_pages_are_sent_again,
+    pages_go_where_zones_were_given_up, pages_keep_the_rules_by_themselves,
+    promises_of_volumes_can_be_kept, sync_calls_wait_for_one_flush,
 };

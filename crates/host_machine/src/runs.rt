@@ -10,5 +10,6 @@ mod laws;
 
 pub use laws::{
     answers_keep_their_promises, every_step_keeps_the_rules, flushes_are_charged_to_sync_calls,
-    plans_spell_their_transaction, power_cuts_leave_whole_transactions, runs_keep_the_rules,
+    flushes_are_waited_for, plans_spell_their_transaction, power_cuts_leave_whole_transactions,
+    runs_keep_the_rules,
 };

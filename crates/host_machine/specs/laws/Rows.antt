@@ -6,11 +6,13 @@ use Rattle.order_model.specs.declared.completion.Completion.TheVariants as compl
 use Rattle.order_model.specs.declared.completion.Completion.{Completion}
 use Rattle.order_model.specs.declared.note.Note.{Note}
 use Rattle.order_model.specs.declared.request.Request.{Request}
-use Rattle.host_machine.specs.Host.{advance, commit_step, writeback, flush_step, opened}
+use Rattle.host_machine.specs.Host.{with_flush, set_wait, advance, commit_step, writeback, flush_step, opened}
 use Rattle.host_machine.specs.Model.{FileBlock, Touched, Freed, Zones, Model}
 use Rattle.number_sets.specs.Sets.{without_all}
 use Rattle.journal_ring.specs.LogRing.{LogRing}
 use Rattle.host_machine.specs.State.{Answered, What, Ends, Entry, Host, Setup}
+use Rattle.host_machine.specs.runs.Runs as runs
+use Rattle.flush_actor.specs.Steps.{submit_flush}
 use Rattle.flush_actor.specs.declared.call_kind.CallKind.{CallKind}
 use Rattle.flush_actor.specs.declared.call_kind.CallKind.TheVariants.{Changing, FileBarrier, DataBarrier, FileSync}
 
@@ -243,6 +245,32 @@ sync_flushing = run (FlushStep None ∷ FlushStep None ∷ FlushStep None ∷ []
 
 abbrev pub sync_flushed : State
 sync_flushed = run (FlushStep (Some (completions.Flushed 6)) ∷ []) sync_flushing
+
+-- ---- two fsyncs of one transaction, and then an fbarrier
+
+abbrev pub shared_moved : State
+shared_moved =
+    run (times 3 (CallOf 0) ++ times 2 (CallOf 1) ++ times 8 CommitStep ++ moved 5 ∷ [])
+    (two_threads (changing [] (2 ∷ 4 ∷ 5 ∷ []) [] (0 ∷ 1 ∷ []) ∷ begun FileSync 1 ∷ []) (begun FileSync 1 ∷ begun FileBarrier 1 ∷ []))
+
+abbrev pub shared_flushing : State
+shared_flushing = run (FlushStep None ∷ FlushStep None ∷ []) shared_moved
+
+abbrev pub shared_end : State
+shared_end = run (FlushStep (Some (completions.Flushed 6)) ∷ CallOf 0 ∷ times 3 (CallOf 1)) shared_flushing
+
+-- a thread would need that flush durable, behind which there is none, for a call of this kind
+abbrev pub needing : ℕ → CallKind → State
+needing t kind = set_wait model setup shared_end t (record { kind = kind; target = None; need = Some 6 })
+
+-- a flush goes out, whoever waits
+abbrev pub flushed_too : State → State
+flushed_too s = with_flush model setup s (submit_flush s.journal.flush)
+
+-- as it would behind a first step
+abbrev pub with_one_more : List runs.Event → State
+with_one_more [] = shared_end
+with_one_more (e ∷ es) = flushed_too shared_end
 
 -- ---- a body that is revoked, in a log of twelve places
 

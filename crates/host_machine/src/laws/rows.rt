@@ -1,11 +1,15 @@
 //! Small sessions, computed step by step: what is submitted, and what is answered.
-ghost use Rattle.std.specs.Prelude.{◌≡◌, Bool, true, false, [], ◌∷◌, length, map, Some};
+ghost use Rattle.std.specs.Prelude.{◌≡◌, ◌≤◌, Bool, true, false, [], ◌∷◌, length, map, Some};
 ghost use Rattle.order_model.specs.declared.note.Note.TheVariants.{Page, Super, Revoke, Descriptor, Body, Commit, Home, Flush};
+ghost use Rattle.flush_actor.specs.Part.{is_flush_note};
+ghost use Rattle.flush_actor.specs.declared.call_kind.CallKind.TheVariants.{FileBarrier, FileSync};
 ghost use Rattle.host_machine.specs.Causes as causes;
 ghost use Rattle.host_machine.specs.Host.{advance};
 ghost use Rattle.host_machine.specs.Outcomes as outcomes;
 ghost use Rattle.host_machine.specs.State.{Begins};
-ghost use Rattle.host_machine.specs.laws.Rows.{model, setup, notes_of, places_of, ordered_of, barriers_of, answers, ok, file_barrier_end, orderless_page_end, quarantine_synced, quarantine_end, full, conflict_held, conflict_end, wrapped, on_its_way, nothing_to_send, begun_in_closing, sync_sent, sync_moved, sync_flushing, sync_flushed, revoked};
+ghost use Rattle.host_machine.specs.runs.Flushes.{count, is_sync_begin, WaitsForFlush, AreWaitedFor};
+ghost use Rattle.host_machine.specs.runs.Runs.{Event};
+ghost use Rattle.host_machine.specs.laws.Rows.{model, setup, notes_of, places_of, ordered_of, barriers_of, answers, ok, file_barrier_end, orderless_page_end, quarantine_synced, quarantine_end, full, conflict_held, conflict_end, wrapped, on_its_way, nothing_to_send, begun_in_closing, sync_sent, sync_moved, sync_flushing, sync_flushed, shared_moved, shared_flushing, shared_end, needing, flushed_too, with_one_more, revoked};
 
 /// A law, which does nothing when it is called: `mkdir`, `create`, a write and an `fbarrier`, with no step of the device.
 /// The page goes first, then superblock, descriptor, bodies and commit block; the last body and the commit block are
@@ -74,4 +78,22 @@ pub fn sync_calls_wait_for_one_flush()
     ensures flush { notes_of sync_flushing ≡ Super ∷ Descriptor 1 ∷ Body 1 2 ∷ Body 1 4 ∷ Body 1 5 ∷ Commit 1 ∷ Flush ∷ [] }
     ensures flushing { (advance model setup false sync_flushing 0).step ≡ outcomes.Waiting (causes.Durable 5) }
     ensures flushed { (advance model setup false sync_flushed 0).step ≡ outcomes.Done 0 }
+{}
+
+/// A law, which does nothing when it is called: two `fsync` calls of one transaction wait for a flush, and once it is
+/// submitted neither does. Where an `fbarrier` follows, nobody waits for a flush, and would not if that call or one that has
+/// ended needed a request durable. A flush that went out then would make no more of them than there are sync calls, so the
+/// count allows it; that each is waited for does not.
+pub fn one_flush_serves_two_sync_calls()
+    ensures first { (w : WaitsForFlush model.kind shared_moved) × (w.thread ≡ 0) }
+    ensures second { (w : WaitsForFlush model.kind shared_moved) × (w.thread ≡ 1) }
+    ensures served { WaitsForFlush model.kind shared_flushing → ⊥ }
+    ensures flush { notes_of shared_end ≡ Super ∷ Descriptor 1 ∷ Body 1 2 ∷ Body 1 4 ∷ Body 1 5 ∷ Commit 1 ∷ Flush ∷ [] }
+    ensures answered { answers shared_end ≡ ok ∷ Begins ∷ Begins ∷ ok ∷ ok ∷ Begins ∷ [] }
+    ensures barrier { (advance model setup false shared_end 1).step ≡ outcomes.Waiting (causes.Commit 2) }
+    ensures nobody { WaitsForFlush model.kind shared_end → ⊥ }
+    ensures barriers { WaitsForFlush model.kind (needing 1 FileBarrier) → ⊥ }
+    ensures ended { WaitsForFlush model.kind (needing 0 FileSync) → ⊥ }
+    ensures counted { count is_flush_note (notes_of (flushed_too shared_end)) ≤ count (is_sync_begin model.kind) (flushed_too shared_end).history }
+    ensures refused { (e : Event) → AreWaitedFor model.kind with_one_more (e ∷ []) → ⊥ }
 {}
