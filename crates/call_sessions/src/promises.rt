@@ -10,6 +10,6 @@
 mod laws;
 
 pub use laws::{
-    answered_calls_keep_their_promises, calls_end_for_a_cause, histories_follow_the_tree,
-    nothing_is_submitted_behind_a_failure, trees_of_sessions_are_one,
+    answered_calls_keep_their_promises, calls_end_for_a_cause, flushes_of_sessions_are_waited_for,
+    histories_follow_the_tree, nothing_is_submitted_behind_a_failure, trees_of_sessions_are_one,
 };

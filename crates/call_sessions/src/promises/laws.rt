@@ -10,6 +10,7 @@ ghost use Rattle.flush_actor.specs.Kinds.{is_data};
 ghost use Rattle.flush_actor.specs.Part.{has_stopped};
 ghost use Rattle.host_machine.specs.State.{Answered, Host};
 ghost use Rattle.host_machine.specs.Views.{tree_after};
+ghost use Rattle.host_machine.specs.runs.Flushes.{AreWaitedFor};
 ghost use Rattle.host_machine.specs.runs.Runs.{Event};
 ghost use Rattle.host_machine.specs.runs.laws.Written.{AreWritten};
 ghost use Rattle.minix_host.specs.Calls.{kind_of};
@@ -31,6 +32,13 @@ pub fn calls_end_for_a_cause()
         HaveCauses kind_of limit (HadCome (host_behind s v ring limit programs) events) (host_behind s v ring limit programs events) }
     ensures answers { (s : Opening) (v : VolumeNow) (ring : LogRing) (limit : ℕ) (programs : List (List Call)) (events : List Event) (e t : ℕ) (c : Call) (r : Reply) →
         EndsAt (host_behind s v ring limit programs events).history e t c (Answered r) → is_turned_away r ≡ false }
+{}
+
+/// A law, which does nothing when it is called: in every session each flush goes out while a sync call that has begun waits
+/// for it, and no flush before it serves that call.
+pub fn flushes_of_sessions_are_waited_for()
+    ensures { (s : Opening) (v : VolumeNow) (ring : LogRing) (limit : ℕ) (programs : List (List Call)) (events : List Event) →
+        AreWaitedFor kind_of (host_behind s v ring limit programs) events }
 {}
 
 /// A law, which does nothing when it is called: once the host of a session took the completion of the power cut, or of a

@@ -39,7 +39,7 @@ pub fn sessions_keep_rules_and_trees()
 
 /// A law, which does nothing when it is called: when a barrier or sync call is answered Ok in such a session, what it
 /// covers stands at or before a barrier, or below a flush that was answered, and it does so whatever the host does after
-/// it. At most as many flushes are submitted as sync calls have begun, so no barrier rests on a flush.
+/// it. At most as many flushes are submitted as sync calls have begun.
 pub fn answers_of_sessions_hold()
     ensures answered { (s : Opening) (v : VolumeNow) (ring : LogRing) (limit : ℕ) (programs : List (List ByteCall)) (events more : List Event)
         (full : Bool) (t : ℕ) (th : Thread ByteCall) (b : Begun) →
