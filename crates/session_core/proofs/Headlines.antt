@@ -62,6 +62,7 @@ headline_of s end r facts order fits device sent found =
       run = record { events = host.events; host = host.host_is };
       causes = host.causes;
       ok_causes = host.ok_causes;
+      waited_for = host.waited_for;
       flushes = p.kept.flushes;
     }
 

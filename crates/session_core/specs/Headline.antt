@@ -23,7 +23,7 @@ use Rattle.flush_actor.specs.Part.{is_flush_note}
 use Rattle.host_machine.specs.State.{Begun}
 use Rattle.host_machine.specs.runs.Promises.{call_of}
 use Rattle.host_machine.specs.runs.Sentences.{IsAllSettled}
-use Rattle.host_machine.specs.runs.Flushes.{count, is_sync_begin}
+use Rattle.host_machine.specs.runs.Flushes.{count, is_sync_begin, AreWaitedFor}
 pub use Rattle.minix_host.specs.Calls.{kind_of}
 use Rattle.minix_host.specs.Sessions.{Stands}
 use Rattle.session_core.specs.run.Beginning.{call_over}
@@ -136,7 +136,9 @@ pub record HeadlineOn (s : SessionScript) (end : EndState) (r : SessionReport) :
   pub run : IsBehind s end
   pub causes : HaveCauses kind_of s.header.limit (HadCome (made_session (geometry_of s) s.journal s.wide s.header.limit s.programs) run.events) end.host
   pub ok_causes : (e t : ℕ) (c : Call) → AnsweredAt end.host e t c → is_data (kind_of c) ≡ false → HasOkCause end.host e t c
-  -- At most as many flushes were submitted as sync calls have begun.
+  -- Each flush was submitted behind the Begin of a sync call, while that call waited for it and no flush before served it; and
+  -- there are at most as many as sync calls have begun.
+  pub waited_for : AreWaitedFor kind_of (made_session (geometry_of s) s.journal s.wide s.header.limit s.programs) run.events
   pub flushes : count is_flush_note end.host.journal.flush.notes ≤ count (is_sync_begin kind_of) end.host.history
 
 -- those of a script's session on the device that it opens

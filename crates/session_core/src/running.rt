@@ -25,7 +25,8 @@ use call_sessions::power_cuts::calls::{
     cut_sessions_mount, cut_sessions_show_files, cut_sessions_tell_how_many, remount,
 };
 use call_sessions::promises::{
-    answered_calls_keep_their_promises, calls_end_for_a_cause, histories_follow_the_tree,
+    answered_calls_keep_their_promises, calls_end_for_a_cause, flushes_of_sessions_are_waited_for,
+    histories_follow_the_tree,
 };
 use device_epochs::{DeviceSetup, EpochDevice};
 use flog_device::{FlogDevice, FlogSetup};
@@ -170,6 +171,7 @@ fn cut_scripts_keep_their_promises(script: &SessionScript)
     sessions_of_calls_on_made_images();
     answered_calls_keep_their_promises();
     calls_end_for_a_cause();
+    flushes_of_sessions_are_waited_for();
     histories_follow_the_tree();
 }
 

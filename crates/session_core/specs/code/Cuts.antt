@@ -14,6 +14,7 @@ use Rattle.crash_laws.specs.Recovery.{IsRecovered}
 use Rattle.crash_laws.specs.Session.{Medium}
 use Rattle.flush_actor.specs.Kinds.{is_data}
 use Rattle.host_machine.specs.State.{Host}
+use Rattle.host_machine.specs.runs.Flushes.{AreWaitedFor}
 use Rattle.host_machine.specs.runs.Runs.{Event}
 use Rattle.minix_host.specs.Calls.{kind_of}
 use Rattle.call_sessions.specs.power_cuts.calls.CallImages.{found_in, made_session, submitted_by, kept_count, kept_tree, KeepsFiles, ShowsFiles}
@@ -38,6 +39,8 @@ pub record HostFacts (s : SessionScript) (h : Host VolumeNow Call Reply) : Type 
   pub ok_causes : (e t : ℕ) (c : Call) → AnsweredAt h e t c → is_data (kind_of c) ≡ false → HasOkCause h e t c
   -- calls that end with no answer of the tree have a cause
   pub causes : HaveCauses kind_of s.header.limit (HadCome (made_session (geometry_of s) s.journal s.wide s.header.limit s.programs) events) h
+  -- a sync call waited for each flush
+  pub waited_for : AreWaitedFor kind_of (made_session (geometry_of s) s.journal s.wide s.header.limit s.programs) events
   -- the history goes by the programs and by the tree of calls
   pub follows : FollowsTree (opening_of s) s.programs h
   pub legal : IsLegal (room_of (geometry_of s)) (root_alone s.width) 0 (program_of s.programs) (events_in h.history)

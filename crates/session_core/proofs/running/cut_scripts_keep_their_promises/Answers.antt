@@ -34,6 +34,7 @@ returns c = λ end r order b.
         promises = c.answered_calls_keep_their_promises.ensures.promises o v ring n ps b.events journal.1 volume journal.0 bytes;
         ok_causes = λ e t x ok kind. c.answered_calls_keep_their_promises.ensures.causes o v ring n ps b.events e t x journal.1 volume journal.0 bytes ok kind;
         causes = c.calls_end_for_a_cause.ensures.causes o v ring n ps b.events;
+        waited_for = c.flushes_of_sessions_are_waited_for.ensures o v ring n ps b.events;
         follows = c.histories_follow_the_tree.ensures.follows o v ring n ps b.events journal.1 volume journal.0 bytes;
         legal = c.histories_follow_the_tree.ensures.legal o v ring n ps b.events journal.1 volume journal.0 bytes;
       };
