@@ -4,7 +4,6 @@ pub mod OpenedTrees
 pub mod Headlines
 pub mod NewestBlocks
 pub mod Seen
-pub mod Replaced
 pub mod CallNames
 pub mod CallEnds
 pub mod Remounts

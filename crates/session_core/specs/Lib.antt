@@ -2,7 +2,6 @@ pub mod Core
 pub mod Report
 pub mod Headline
 pub mod CallNames
-pub mod Replaced
 pub mod CallEnds
 pub mod code
 pub mod opening

@@ -5,8 +5,7 @@
 //! `specs/Core` has where that leads; `recover_session` makes the report of every session that ended, also of one whose parts
 //! ran apart, and tells that the headline holds of it; `report` has what is left, and `specs/Report` says which report it is and what it
 //! promises. `run` does the events one after the other on one thread, and has the session as a machine. `laws` ties what is promised of a call by its kind to the calls' names (`specs/CallNames`), what survived
-//! to what a reader sees in the tree, both to how programs replace a file (`specs/Replaced`), and how calls end to the
-//! header of the script (`specs/CallEnds`).
+//! to what a reader sees in the tree, and how calls end to the header of the script (`specs/CallEnds`).
 //!
 //! Stands on `opening`, `run` and `call_sessions::power_cuts::recovery` for its three parts, and on `call_sessions::power_cuts::calls` for what a
 //! power cut may leave.
@@ -19,7 +18,7 @@ pub mod run;
 mod running;
 
 pub use laws::{
-    calls_end_as_their_script_says, calls_promise_by_their_names, replaced_files_are_whole,
+    calls_end_as_their_script_says, calls_promise_by_their_names,
     what_is_shown_later_survived,
 };
 pub use report::{CutRecord, DeviceSteps, SessionReport};

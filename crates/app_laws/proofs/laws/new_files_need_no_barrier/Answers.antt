@@ -1,5 +1,0 @@
-use Rattle.app_laws.proofs.Applied.{replaced_grown}
-use Rattle.app_laws.proofs.laws.new_files_need_no_barrier.Goals as goal
-
-pub returns : goal.returns
-returns c = replaced_grown

@@ -1,5 +1,0 @@
-use Rattle.app_laws.proofs.Applied.{logged}
-use Rattle.app_laws.proofs.laws.pages_have_their_records.Goals as goal
-
-pub returns : goal.returns
-returns c = logged

@@ -1,5 +1,0 @@
-use Rattle.app_laws.proofs.Applied.{replaced}
-use Rattle.app_laws.proofs.laws.replaced_files_are_old_or_new.Goals as goal
-
-pub returns : goal.returns
-returns c = replaced
