@@ -96,4 +96,3 @@ module _ {A T V C R : Type 0} {o : Over A T V C R} {Stands : V → T → Type 0}
 
       rise : (k : ℕ) → cut_of [] 0 k ≤ cut_of [] 0 (k + 1)
       rise k = let a = no_cut k in let b = no_cut (k + 1) in omega arith
-

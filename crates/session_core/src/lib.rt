@@ -18,8 +18,7 @@ pub mod run;
 mod running;
 
 pub use laws::{
-    calls_end_as_their_script_says, calls_promise_by_their_names,
-    what_is_shown_later_survived,
+    calls_end_as_their_script_says, calls_promise_by_their_names, what_is_shown_later_survived,
 };
 pub use report::{CutRecord, DeviceSteps, SessionReport};
 pub use running::{

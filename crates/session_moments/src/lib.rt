@@ -3,6 +3,4 @@
 
 mod laws;
 
-pub use laws::{
-    fronts_are_scripts, outcomes_are_reported, spans_go_on, what_is_left_is_an_end,
-};
+pub use laws::{fronts_are_scripts, outcomes_are_reported, spans_go_on, what_is_left_is_an_end};

@@ -1,5 +1,6 @@
 //! Devices that show, while they go on, what a power cut would leave.
 #![tactic(auto)]
+
 ghost use Rattle.std.specs.Prelude.{◌≡◌, IfOk};
 
 use blk_base::{Image, NoMemory};
@@ -28,7 +29,10 @@ impl ShowsMedium for FlogDevice {
 }
 
 /// A law by running: the copy is what a power cut leaves at once behind it.
-pub fn shown_and_left<D: ShowsMedium + Drop>(alloc: Global, dev: D) -> Result<(Image, CutDisk), NoMemory>
+pub fn shown_and_left<D: ShowsMedium + Drop>(
+    alloc: Global,
+    dev: D,
+) -> Result<(Image, CutDisk), NoMemory>
     ensures { IfOk result (λ r. r.0 ≡ r.1.image) }
 {
     let shown = dev.medium(alloc)?;

@@ -29,7 +29,7 @@ returns g c = λ s h sched first left made setup same is calls.
       behind = behind_of k.steps (machine_of t) s sched first one (c.hosts_of_sessions_take_their_steps.ensures.steps o (opened_session o b sched first) es);
       fits = end_fits k.steps (machine_of t) s sched first one (parts.fit o b sched first es from.written from.opened from.journal from.bytes from.sched_is from.dev_is from.starts);
       device = device_of k.steps (machine_of t) s sched first one setup (parts.made o b sched first es from.written from.opened from.journal from.bytes from.sched_is from.dev_is from.starts)
-        (l.power_cut last valid).0 (l.failure last valid);
+          (l.power_cut last valid).0 (l.failure last valid);
       order = order_at_end k.steps (machine_of t) o (session_on s k.steps (machine_of t) sched first) left is
-        (c.sessions_keep_order_to_the_medium.ensures.order o b sched first es from.written from.opened from.journal from.bytes from.sched_is from.dev_is from.starts same);
+          (c.sessions_keep_order_to_the_medium.ensures.order o b sched first es from.written from.opened from.journal from.bytes from.sched_is from.dev_is from.starts same);
     }
