@@ -1,0 +1,4 @@
+-- The tables of calls.
+pub mod Conditions
+pub mod Examples
+pub mod Tables
