@@ -1,4 +1,5 @@
 -- How the top call ends, with all that it says of that.
+use Rattle.std.specs.Prelude.{IfSome}
 use Rattle.std.proofs.Common.{◌≡◌, ℕ, Bool, List, is_some, Option, Some, None, refl, sym, ap, ◌∙◌, subst, inl, inr}
 use Rattle.std.proofs.lemmas.Option.{none-some, same_Some}
 use Rattle.std.specs.Io.KnownBytes.{Keeps}
@@ -14,8 +15,8 @@ use Rattle.barrierfs_top.specs.declared.program.Ended.{Ended}
 use Rattle.barrierfs_top.specs.declared.run_report.RunReport.{RunReport}
 use Rattle.barrierfs_top.specs.declared.top.Outcome.{Outcome}
 use Rattle.barrierfs_top.specs.Promise.{WentOut, IsWritten}
-use Rattle.barrierfs_top.specs.Tasks.{run_in, without_run}
-use Rattle.barrierfs_top.specs.Top.{Stream, IsUnread, IsDone, Does, Cause, Did, WasWritten, EndsAsExpected}
+use Rattle.barrierfs_top.specs.Tasks.{run_in, run_of}
+use Rattle.barrierfs_top.specs.Top.{Stream, IsUnread, IsDone, Does, Cause, Did, WasWritten, EndsAs, EndsAsExpected}
 use Rattle.barrierfs_top.specs.TopEnd.{EndsFor, EndsSome}
 use Rattle.barrierfs_top.proofs.Ends.{ends_well, ends_early, ends_with, not_well}
 use Rattle.barrierfs_top.proofs.Promised.{none_out, went_out, front_out, promised, threads_promised}
@@ -24,7 +25,7 @@ use Rattle.barrierfs_top.proofs.StoreRuns.{kept}
 -- what is known of an end for which nothing was written
 pub record EndsEarly (asked : Option Task) (source : Stream) (fault : TopFault) : Type 0 where
   pub cause : Cause asked source fault
-  pub words : asked ≡ None → fault ≡ faults.BadWords
+  pub words : asked ≡ None → EndsAs (Some faults.BadWords) (Some fault)
   pub made : (s : Sizes) → asked ≡ Some (tasks.Make s) → fault ≡ faults.NoMemory
   pub generated : (n : ℕ) → asked ≡ Some (tasks.Bulk n) → fault ≡ faults.NoMemory
   pub unread : ((c : InputTask) → asked ≡ Some (tasks.Read c) → ⊥) → IsUnread source
@@ -124,7 +125,7 @@ module _ (asked : Option Task) (source sink : Stream) where
         threads = λ bytes asks out. absurd (nothing_out bytes_stay bytes out);
         kept_puts = λ bytes asks out. absurd (nothing_out bytes_stay bytes out);
         did = did_refuse fault is.cause (subst (λ (b : Option (List ℕ)). Keeps sink.bytes b) (sym bytes_stay) (same_keeps sink.bytes));
-        words = λ empty. ap Some (is.words empty);
+        words = is.words;
         unread = is.unread;
         complete = λ c asks input told still quiet. ends_early asked source fault is.cause c asks input told still;
         refused = λ c asks input told still wanted expects. ends_with c input wanted (Some fault) expects (ends_early asked source fault is.cause c asks input told still);
@@ -147,19 +148,26 @@ ends_some asked source sink outcome told same reported ends = record {
   told = reported;
 }
 
+-- no memory for the words themselves: nothing was read and nothing written
+pub ends_unasked : (asked : Option Task) (source sink : Stream) (report : Option RunReport) (fault : Option TopFault) → report ≡ None → fault ≡ Some faults.NoMemory → IsUnread source
+    → sink.bytes_after ≡ sink.bytes → sink.faults_after ≡ sink.faults → EndsFor asked source sink report fault
+ends_unasked asked source sink report fault none some unread bytes_stay faults_stay =
+    refused_as asked source sink faults.NoMemory report fault none some
+    (ends_refused asked source sink faults.NoMemory (record {
+      cause = tt;
+      words = λ empty. inr refl;
+      made = λ s asks. refl;
+      generated = λ n asks. refl;
+      unread = λ other. unread;
+      steady = λ other. unread.1;
+    }) bytes_stay faults_stay)
+
 -- ---- what is asked of `alone`
 
 -- what needs no threads
-pub lone_is_all : (o : Option Task) → run_in o ≡ None → without_run o ≡ o
-lone_is_all None e = refl
-lone_is_all (Some (tasks.Make s)) e = refl
-lone_is_all (Some (tasks.Bulk n)) e = refl
-lone_is_all (Some (tasks.Read (commands.Replay raw))) e = refl
-lone_is_all (Some (tasks.Read (commands.Run raw))) e = absurd (none-some raw (sym e))
-lone_is_all (Some (tasks.Read commands.Show)) e = refl
-lone_is_all (Some (tasks.Read (commands.Widen raw))) e = refl
-lone_is_all (Some (tasks.Read commands.Check)) e = refl
-lone_is_all (Some (tasks.Read commands.Kv)) e = refl
+pub lone_task : (o : Option Task) → run_in o ≡ None → IfSome o (λ t. run_of t ≡ None)
+lone_task None e = tt
+lone_task (Some t) e = e
 
 -- a run in threads
 pub asks_run : (o : Option Task) (raw : Bool) → run_in o ≡ Some raw → o ≡ Some (tasks.Read (commands.Run raw))

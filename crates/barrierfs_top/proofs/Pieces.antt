@@ -10,7 +10,6 @@ use Rattle.std.proofs.lemmas.Option.{none-some, same_Some}
 use Rattle.blk_base.specs.Image.{whole_blocks}
 use Rattle.blk_base.specs.laws.Cutting.{cut_is_whole_blocks}
 use Rattle.blk_base.specs.Streams.{AppendsFront}
-use Rattle.barrierfs_top.specs.Tasks.{task_of}
 
 next_at : (xs : List (List ℕ)) (k : ℕ) (x : List ℕ) → slice_get xs k ≡ Some x → concat (take (suc k) xs) ≡ concat (take k xs) ++ x
 next_at [] k x e = absurd (none-some x e)
@@ -68,20 +67,3 @@ whole_again xs sizes = sym (cut_is_whole_blocks (concat xs) xs [] (record {
   whole = All-from_get_or (λ (b : List ℕ). length b ≡ 1024) xs [] sizes;
   under = omega arith;
 }))
-
--- ---- words that are no task
-
-pub no_task_of_few : (words : List (List ℕ)) → 3 ≤ length words → length words < 4 → task_of words ≡ None
-no_task_of_few [] low high = absurd (omega (arith, low))
-no_task_of_few (a ∷ []) low high = absurd (omega (arith, low))
-no_task_of_few (a ∷ b ∷ []) low high = absurd (omega (arith, low))
-no_task_of_few (a ∷ b ∷ c ∷ []) low high = refl
-no_task_of_few (a ∷ b ∷ c ∷ d ∷ words) low high = absurd (omega (arith, high))
-
-pub no_task_of_many : (words : List (List ℕ)) → 5 ≤ length words → task_of words ≡ None
-no_task_of_many [] low = absurd (omega (arith, low))
-no_task_of_many (a ∷ []) low = absurd (omega (arith, low))
-no_task_of_many (a ∷ b ∷ []) low = absurd (omega (arith, low))
-no_task_of_many (a ∷ b ∷ c ∷ []) low = absurd (omega (arith, low))
-no_task_of_many (a ∷ b ∷ c ∷ d ∷ []) low = absurd (omega (arith, low))
-no_task_of_many (a ∷ b ∷ c ∷ d ∷ e ∷ words) low = refl

@@ -1,5 +1,6 @@
 -- Words ask for what the table has, and for nothing else.
-use Rattle.std.proofs.Common.{◌≡◌, ℕ, ◌&&◌, Bool, true, false, nat_lt, nat_le, if◌then◌else◌, List, [], ◌∷◌, codes, decimal, Option, Some, None, refl, sym, subst, arith, bytes_eq, option_map}
+use Rattle.std.proofs.Common.{◌≡◌, ◌∙◌, ℕ, ◌&&◌, Bool, true, false, nat_lt, nat_le, if◌then◌else◌, List, [], ◌∷◌, codes, decimal, Option, Some, None, refl, sym, subst, arith, bytes_eq, option_map}
+use Rattle.std.specs.Prelude.{option_and_then}
 use Rattle.std.proofs.lemmas.Bool.{and_parts, leb-true, ltb-true, lt-ltb, le-leb}
 use Rattle.std.proofs.lemmas.Option.{none-some, same_Some}
 use Rattle.std.proofs.lemmas.Slice.Eq.{bytes_eq-Decides}
@@ -10,53 +11,52 @@ use Rattle.script_words.proofs.SpelledNumbers.{numeral-decimal}
 use Rattle.session_report.specs.declared.bulk.limits.TheConstants.{MOST_GENERATED}
 use Rattle.minix_layout.specs.Words.{first_zone}
 use Rattle.minix_layout.specs.declared.limits.TheConstants.{LEAST_JOURNAL, MOST_JOURNAL, MOST_NUMBERED}
-use Rattle.barrierfs_top.specs.declared.command_line.InputTask.{InputTask}
-use Rattle.barrierfs_top.specs.declared.command_line.InputTask.TheVariants as commands
 use Rattle.barrierfs_top.specs.declared.command_line.Sizes.{Sizes}
 use Rattle.barrierfs_top.specs.declared.command_line.Task.{Task}
 use Rattle.barrierfs_top.specs.declared.command_line.Task.TheVariants as tasks
-use Rattle.barrierfs_top.specs.Tasks.{command_named_by, raw_named_by, raw_of, can_make, sizes_of, make_of, workload_of, task_of}
+use Rattle.clap_words.specs.Table.{Said, is_numeral, one_word, with_raw}
+use Rattle.barrierfs_top.specs.Tasks.{can_make, sizes_of, task_of, task_said, workload_of}
 use Rattle.barrierfs_top.specs.WordLists.{AreSizes, AskFor}
 
--- ---- words that are tested
+-- what these words say asks for
+abbrev asks : Option Said → Option Task
+asks = option_and_then task_said
 
-linked : {A : Type 0} (w name : List ℕ) (x y : A) (rest : Option A) (Q : A → Type 0) (same : Bool) → bytes_eq w name ≡ same → (if same then Some x else rest) ≡ Some y
-    → (w ≡ name → Q x) → (rest ≡ Some y → Q y) → Q y
-linked w name x y rest Q true e h here other = subst Q (same_Some x y h) (here ((bytes_eq-Decides w name).0 e))
-linked w name x y rest Q false e h here other = other h
+-- ---- words that are tested, one after the other
 
--- one of several words, tested one after the other
-link : {A : Type 0} (w name : List ℕ) (x y : A) (rest : Option A) (Q : A → Type 0) → (if bytes_eq w name then Some x else rest) ≡ Some y → (w ≡ name → Q x) → (rest ≡ Some y → Q y) → Q y
-link w name x y rest Q h here other = linked w name x y rest Q (bytes_eq w name) refl h here other
+module _ (w : List ℕ) (rest : List (List ℕ)) (t : Task) where
+  row_by : (name : List ℕ) (said : Said) (u : Task) (others : Option Said) (same : Bool) → bytes_eq w name ≡ same → asks (if same then Some said else others) ≡ Some t
+      → task_said said ≡ Some u → AskFor (name ∷ rest) u → (asks others ≡ Some t → AskFor (w ∷ rest) t) → AskFor (w ∷ rest) t
+  row_by name said u others true is h asked here other =
+      subst (λ v. AskFor (v ∷ rest) t) (sym ((bytes_eq-Decides w name).0 is)) (subst (λ s. AskFor (name ∷ rest) s) (same_Some u t (sym asked ∙ h)) here)
+  row_by name said u others false is h asked here other = other h
 
--- a word that must be this one
-required : {A : Type 0} (w name : List ℕ) (o : Option A) (y : A) (same : Bool) → bytes_eq w name ≡ same → (if same then o else None) ≡ Some y → (w ≡ name) × (o ≡ Some y)
-required w name o y true e h = ((bytes_eq-Decides w name).0 e, h)
-required w name o y false e h = absurd (none-some y h)
+  row : (name : List ℕ) (said : Said) (u : Task) (others : Option Said) → asks (if bytes_eq w name then Some said else others) ≡ Some t
+      → task_said said ≡ Some u → AskFor (name ∷ rest) u → (asks others ≡ Some t → AskFor (w ∷ rest) t) → AskFor (w ∷ rest) t
+  row name said u others h asked here other = row_by name said u others (bytes_eq w name) refl h asked here other
 
 -- ---- one word, and two
 
-named : (w : List ℕ) (c : InputTask) → command_named_by w ≡ Some c → AskFor (w ∷ []) (tasks.Read c)
-named w c h =
-    link w (codes "replay") (commands.Replay false) c _ (λ d. AskFor (w ∷ []) (tasks.Read d)) h (λ is. subst (λ v. AskFor (v ∷ []) (tasks.Read (commands.Replay false))) (sym is) AskFor.replay)
-    (λ h. link w (codes "run") (commands.Run false) c _ (λ d. AskFor (w ∷ []) (tasks.Read d)) h (λ is. subst (λ v. AskFor (v ∷ []) (tasks.Read (commands.Run false))) (sym is) AskFor.run)
-    (λ h. link w (codes "show") commands.Show c _ (λ d. AskFor (w ∷ []) (tasks.Read d)) h (λ is. subst (λ v. AskFor (v ∷ []) (tasks.Read commands.Show)) (sym is) AskFor.show)
-    (λ h. link w (codes "widen") (commands.Widen false) c _ (λ d. AskFor (w ∷ []) (tasks.Read d)) h (λ is. subst (λ v. AskFor (v ∷ []) (tasks.Read (commands.Widen false))) (sym is) AskFor.widen)
-    (λ h. link w (codes "check") commands.Check c _ (λ d. AskFor (w ∷ []) (tasks.Read d)) h (λ is. subst (λ v. AskFor (v ∷ []) (tasks.Read commands.Check)) (sym is) AskFor.check)
-    (λ h. link w (codes "kv") commands.Kv c _ (λ d. AskFor (w ∷ []) (tasks.Read d)) h (λ is. subst (λ v. AskFor (v ∷ []) (tasks.Read commands.Kv)) (sym is) AskFor.kv)
-    (λ h. absurd (none-some c h)))))))
+one : (w : List ℕ) (t : Task) → asks (one_word w) ≡ Some t → AskFor (w ∷ []) t
+one w t h =
+    row w [] t (codes "replay") (Said.replay false) _ _ h refl AskFor.replay (λ h.
+    row w [] t (codes "run") (Said.run false) _ _ h refl AskFor.run (λ h.
+    row w [] t (codes "show") Said.show _ _ h refl AskFor.show (λ h.
+    row w [] t (codes "widen") (Said.widen false) _ _ h refl AskFor.widen (λ h.
+    row w [] t (codes "check") Said.check _ _ h refl AskFor.check (λ h.
+    row w [] t (codes "kv") Said.kv _ _ h refl AskFor.kv (λ h.
+    absurd (none-some t h)))))))
 
-raw_named : (w : List ℕ) (c : InputTask) → raw_named_by w ≡ Some c → AskFor (w ∷ codes "--raw" ∷ []) (tasks.Read c)
-raw_named w c h =
-    link w (codes "replay") (commands.Replay true) c _ (λ d. AskFor (w ∷ codes "--raw" ∷ []) (tasks.Read d)) h (λ is. subst (λ v. AskFor (v ∷ codes "--raw" ∷ []) (tasks.Read (commands.Replay true))) (sym is) AskFor.raw_replay)
-    (λ h. link w (codes "run") (commands.Run true) c _ (λ d. AskFor (w ∷ codes "--raw" ∷ []) (tasks.Read d)) h (λ is. subst (λ v. AskFor (v ∷ codes "--raw" ∷ []) (tasks.Read (commands.Run true))) (sym is) AskFor.raw_run)
-    (λ h. link w (codes "widen") (commands.Widen true) c _ (λ d. AskFor (w ∷ codes "--raw" ∷ []) (tasks.Read d)) h (λ is. subst (λ v. AskFor (v ∷ codes "--raw" ∷ []) (tasks.Read (commands.Widen true))) (sym is) AskFor.raw_widen)
-    (λ h. absurd (none-some c h))))
+raw : (w : List ℕ) (t : Task) → asks (with_raw w) ≡ Some t → AskFor (w ∷ codes "--raw" ∷ []) t
+raw w t h =
+    row w (codes "--raw" ∷ []) t (codes "replay") (Said.replay true) _ _ h refl AskFor.raw_replay (λ h.
+    row w (codes "--raw" ∷ []) t (codes "run") (Said.run true) _ _ h refl AskFor.raw_run (λ h.
+    row w (codes "--raw" ∷ []) t (codes "widen") (Said.widen true) _ _ h refl AskFor.raw_widen (λ h.
+    absurd (none-some t h))))
 
-two : (w r : List ℕ) (c : InputTask) → raw_of r (raw_named_by w) ≡ Some c → AskFor (w ∷ r ∷ []) (tasks.Read c)
-two w r c h =
-    let is = required r (codes "--raw") (raw_named_by w) c (bytes_eq r (codes "--raw")) refl h in
-    subst (λ v. AskFor (w ∷ v ∷ []) (tasks.Read c)) (sym is.0) (raw_named w c is.1)
+raw_by : (w v : List ℕ) (t : Task) (same : Bool) → bytes_eq v (codes "--raw") ≡ same → asks (if same then with_raw w else None) ≡ Some t → AskFor (w ∷ v ∷ []) t
+raw_by w v t true is h = subst (λ u. AskFor (w ∷ u ∷ []) t) (sym ((bytes_eq-Decides v (codes "--raw")).0 is)) (raw w t h)
+raw_by w v t false is h = absurd (none-some t h)
 
 -- ---- the number of a workload
 
@@ -76,10 +76,14 @@ numbered : (r : List ℕ) (t : Task) (number : Option ℕ) → numeral r ≡ num
 numbered r t (Some n) said e = bulk_by r n t (nat_lt 0 n && nat_le n MOST_GENERATED) (λ may. bulk_spelled r n said may) e
 numbered r t None said e = absurd (none-some t e)
 
-pair : (w r : List ℕ) (t : Task) (same : Bool) → bytes_eq w (codes "bulk") ≡ same
-    → (if same then workload_of (numeral r) else option_map tasks.Read (raw_of r (raw_named_by w))) ≡ Some t → AskFor (w ∷ r ∷ []) t
-pair w r t true is h = subst (λ v. AskFor (v ∷ r ∷ []) t) (sym ((bytes_eq-Decides w (codes "bulk")).0 is)) (numbered r t (numeral r) refl h)
-pair w r t false is h = mapped (λ u. AskFor (w ∷ r ∷ []) u) tasks.Read (raw_of r (raw_named_by w)) t h (λ c e. two w r c e)
+bulk_of_number : (r : List ℕ) (t : Task) (is : Bool) → asks (if is then Some (Said.bulk r) else None) ≡ Some t → AskFor (codes "bulk" ∷ r ∷ []) t
+bulk_of_number r t true h = numbered r t (numeral r) refl h
+bulk_of_number r t false h = absurd (none-some t h)
+
+two : (w r : List ℕ) (t : Task) (same : Bool) → bytes_eq w (codes "bulk") ≡ same
+    → asks (if same then (if is_numeral r then Some (Said.bulk r) else None) else if bytes_eq r (codes "--raw") then with_raw w else None) ≡ Some t → AskFor (w ∷ r ∷ []) t
+two w r t true is h = subst (λ v. AskFor (v ∷ r ∷ []) t) (sym ((bytes_eq-Decides w (codes "bulk")).0 is)) (bulk_of_number r t (is_numeral r) h)
+two w r t false is h = raw_by w r t (bytes_eq r (codes "--raw")) refl h
 
 -- ---- sizes
 
@@ -137,22 +141,37 @@ sized i z j s None b c x y k e = absurd (none-some s e)
 sized i z j s (Some inodes) None c x y k e = absurd (none-some s e)
 sized i z j s (Some inodes) (Some zones) None x y k e = absurd (none-some s e)
 
-four : (w i z j : List ℕ) (t : Task) → make_of w (sizes_of (numeral i) (numeral z) (numeral j)) ≡ Some t → AskFor (w ∷ i ∷ z ∷ j ∷ []) t
-four w i z j t h =
+four : (w i z j : List ℕ) (t : Task) (same numbers : Bool) → bytes_eq w (codes "make") ≡ same → asks (if same && numbers then Some (Said.make i z j) else None) ≡ Some t
+    → AskFor (w ∷ i ∷ z ∷ j ∷ []) t
+four w i z j t true true is h =
     let sizes = sizes_of (numeral i) (numeral z) (numeral j) in
-    let is = required w (codes "make") (option_map tasks.Make sizes) t (bytes_eq w (codes "make")) refl h in
-    subst (λ v. AskFor (v ∷ i ∷ z ∷ j ∷ []) t) (sym is.0)
-    (mapped (λ u. AskFor (codes "make" ∷ i ∷ z ∷ j ∷ []) u) tasks.Make sizes t is.1 (λ s e. sized i z j s (numeral i) (numeral z) (numeral j) refl refl refl e))
+    subst (λ v. AskFor (v ∷ i ∷ z ∷ j ∷ []) t) (sym ((bytes_eq-Decides w (codes "make")).0 is))
+    (mapped (λ u. AskFor (codes "make" ∷ i ∷ z ∷ j ∷ []) u) tasks.Make sizes t h (λ s e. sized i z j s (numeral i) (numeral z) (numeral j) refl refl refl e))
+four w i z j t true false is h = absurd (none-some t h)
+four w i z j t false numbers is h = absurd (none-some t h)
 
 -- ---- all lists
 
 pub ask_for : (words : List (List ℕ)) (t : Task) → task_of words ≡ Some t → AskFor words t
 ask_for [] t h = absurd (none-some t h)
-ask_for (w ∷ []) t h = mapped (λ u. AskFor (w ∷ []) u) tasks.Read (command_named_by w) t h (λ c e. named w c e)
-ask_for (w ∷ r ∷ []) t h = pair w r t (bytes_eq w (codes "bulk")) refl h
+ask_for (w ∷ []) t h = one w t h
+ask_for (w ∷ r ∷ []) t h = two w r t (bytes_eq w (codes "bulk")) refl h
 ask_for (w ∷ r ∷ v ∷ []) t h = absurd (none-some t h)
-ask_for (w ∷ i ∷ z ∷ j ∷ []) t h = four w i z j t h
+ask_for (w ∷ i ∷ z ∷ j ∷ []) t h = four w i z j t (bytes_eq w (codes "make")) (is_numeral i && (is_numeral z && is_numeral j)) refl h
 ask_for (w ∷ i ∷ z ∷ j ∷ v ∷ words) t h = absurd (none-some t h)
+
+-- what is read as a number is one
+no_number : (r : List ℕ) → is_numeral r ≡ false → numeral r ≡ None
+no_number [] e = refl
+no_number (b ∷ []) e = rw e refl
+no_number (b ∷ c ∷ bs) e = rw e refl
+
+number_is : (r : List ℕ) (n : ℕ) (is : Bool) → is_numeral r ≡ is → numeral r ≡ Some n → is ≡ true
+number_is r n true e said = refl
+number_is r n false e said = absurd (none-some n (sym (no_number r e) ∙ said))
+
+spelled_number : (n : ℕ) → numeral (decimal n) ≡ Some n → is_numeral (decimal n) ≡ true
+spelled_number n said = number_is (decimal n) n (is_numeral (decimal n)) refl said
 
 made_of : (s : Sizes) (may : Bool) → may ≡ true → ◌≡◌ {A = Option Task} (option_map tasks.Make (if may then Some s else None)) (Some (tasks.Make s))
 made_of s true e = refl
@@ -168,10 +187,14 @@ asked words t AskFor.widen = refl
 asked words t AskFor.raw_widen = refl
 asked words t AskFor.check = refl
 asked words t AskFor.kv = refl
-asked words t (AskFor.bulk n some most) = rw (numeral-decimal n (omega (arith, most)), lt-ltb 0 n some, le-leb n MOST_GENERATED most) refl
+asked words t (AskFor.bulk n some most) =
+    let said = numeral-decimal n (omega (arith, most)) in
+    rw (spelled_number n said, said, lt-ltb 0 n some, le-leb n MOST_GENERATED most) refl
 asked words t (AskFor.make s is) =
     let first = is.most_inodes in
     let second = is.most_zones in
     let third = is.most_journal in
-    rw (numeral-decimal s.inodes (omega (arith, first)), numeral-decimal s.zones (omega (arith, second)), numeral-decimal s.journal (omega (arith, third)))
-    (made_of s (can_make s.inodes s.zones s.journal) (can s is))
+    let i = numeral-decimal s.inodes (omega (arith, first)) in
+    let z = numeral-decimal s.zones (omega (arith, second)) in
+    let j = numeral-decimal s.journal (omega (arith, third)) in
+    rw (spelled_number s.inodes i, spelled_number s.zones z, spelled_number s.journal j, i, z, j) (made_of s (can_make s.inodes s.zones s.journal) (can s is))

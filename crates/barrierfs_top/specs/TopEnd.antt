@@ -23,8 +23,8 @@ pub record EndsFor (asked : Option Task) (source sink : Stream) (report : Option
   -- of the bytes that `kv` writes
   pub kept_puts : (bytes : List ℕ) → asked ≡ Some (tasks.Read commands.Kv) → WentOut sink.bytes sink.bytes_after bytes → TellsStore source.bytes source.bytes_after fault bytes
   pub did : Did asked source sink report fault
-  -- words that ask for no task are bad words
-  pub words : asked ≡ None → fault ≡ Some faults.BadWords
+  -- words that ask for no task are bad words, unless memory runs out before that is known
+  pub words : asked ≡ None → EndsAs (Some faults.BadWords) fault
   -- a call that asks for no input leaves the source as it was
   pub unread : ((c : InputTask) → asked ≡ Some (tasks.Read c) → ⊥) → IsUnread source
   -- where the input is told and neither stream fails, the call ends as the input asks, or out of memory

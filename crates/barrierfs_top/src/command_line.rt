@@ -1,9 +1,11 @@
 //! What the words of the command line ask for.
-ghost use Rattle.std.specs.Prelude.{◌≡◌, ◌++◌, ◌∷◌, [], Some, None, IfSome, OnOk, OnErr};
+ghost use Rattle.std.specs.Prelude.{◌≡◌, ◌++◌, ◌∷◌, [], Some, None, IfOk, IfSome, OnOk, OnErr};
 ghost use Rattle.script_words.specs.Spelling.{numeral};
-ghost use Rattle.barrierfs_top.specs.Tasks.{command_named_by, lone_task_of, most_of, pair_of, raw_named_by, raw_of, run_in, run_of, sizes_of, task_of, workload_of, CanDo};
+ghost use Rattle.clap_words.specs.Table.{said_of};
+ghost use Rattle.barrierfs_top.specs.Tasks.{lone_task_of, most_of, run_in, run_of, sizes_of, task_of, task_said, without_run, workload_of, CanDo};
 
 use blk_base::NoMemory;
+use clap_words::{Asked, read_words, refusal};
 use minix_layout::{DEFAULT_WIDTH, Geometry, LEAST_JOURNAL, MOST_JOURNAL, MOST_NUMBERED};
 use script_grammar::MOST_SCRIPT_BYTES;
 use script_words::numeral;
@@ -110,69 +112,73 @@ impl Words {
 
     /// What is to be done, where the words say so. Sizes of which no image can be made are no such words, and so are
     /// numbers of which no workload is generated.
-    pub fn task(&self) -> Option<Task>
-        ensures value { result ≡ task_of self.now }
-        ensures can { IfSome result (λ t. CanDo t) }
+    pub fn task(&self, alloc: Global) -> Result<Option<Task>, NoMemory>
+        ensures value { IfOk result (λ r. r ≡ task_of self.now) }
+        ensures can { IfOk result (λ r. IfSome r (λ t. CanDo t)) }
     {
-        match self.items.as_slice() {
-            [word] => Some(Task::Read(command_named(word.as_str())?)),
-            [word, second] => pair_named(word.as_str(), second.as_str()),
-            [make, inodes, zones, journal] => {
-                if make.as_str() != "make" {
-                    return None;
-                }
-                let sizes = sizes_named(inodes.as_str(), zones.as_str(), journal.as_str())?;
-                Some(Task::Make(sizes))
-            }
-            _ => None,
+        match read_words(alloc, self.items.as_slice()) {
+            Ok(Some(asked)) => Ok(task_asked(asked)),
+            Ok(None) => Ok(None),
+            Err(_) => Err(NoMemory),
         }
-    }
-
-    /// Where the words ask for a run in threads: whether for the image that it leaves.
-    pub fn run(&self) -> Option<bool>
-        ensures { result ≡ run_in (task_of self.now) }
-    {
-        let task = self.task()?;
-        task.run()
     }
 
     /// What is to be done, where the words ask for something that needs no threads.
-    pub fn lone_task(&self) -> Option<Task>
-        ensures value { result ≡ lone_task_of self.now }
-        ensures can { IfSome result (λ t. CanDo t) }
-        ensures lone { IfSome result (λ t. run_of t ≡ None) }
+    pub fn lone_task(&self, alloc: Global) -> Result<Option<Task>, NoMemory>
+        ensures value { IfOk result (λ r. r ≡ lone_task_of self.now) }
+        ensures can { IfOk result (λ r. IfSome r (λ t. CanDo t)) }
+        ensures lone { IfOk result (λ r. IfSome r (λ t. run_of t ≡ None)) }
     {
-        let task = self.task()?;
-        match task.run() {
-            None => Some(task),
-            Some(_) => None,
-        }
+        let asked = self.task(alloc)?;
+        Ok(without_run(asked))
+    }
+
+    /// What `clap` says of words that ask for nothing, where it says something that fits.
+    pub fn refusal(&self, alloc: Global) -> Option<String> {
+        refusal(alloc, self.items.as_slice())
     }
 }
 
-fn command_named(word: &str) -> Option<InputTask>
-    ensures { result ≡ command_named_by word.now }
+/// Where a run in threads is asked for: whether for the image that it leaves.
+pub fn run_asked(asked: Option<Task>) -> Option<bool>
+    ensures { result ≡ run_in asked }
 {
-    match word {
-        "replay" => Some(InputTask::Replay { raw: false }),
-        "run" => Some(InputTask::Run { raw: false }),
-        "show" => Some(InputTask::Show),
-        "widen" => Some(InputTask::Widen { raw: false }),
-        "check" => Some(InputTask::Check),
-        "kv" => Some(InputTask::Kv),
-        _ => None,
+    asked?.run()
+}
+
+// What is asked, where that needs no threads.
+fn without_run(asked: Option<Task>) -> Option<Task>
+    requires { IfSome asked (λ t. CanDo t) }
+    ensures value { result ≡ without_run asked }
+    ensures can { IfSome result (λ t. CanDo t) }
+    ensures lone { IfSome result (λ t. run_of t ≡ None) }
+{
+    let task = asked?;
+    match task.run() {
+        None => Some(task),
+        Some(_) => None,
     }
 }
 
-// `bulk` and its number, or a command with `--raw` behind its word.
-fn pair_named(word: &str, second: &str) -> Option<Task>
-    ensures value { result ≡ pair_of word.now second.now }
+// What is to be done, where the numbers may be done.
+fn task_asked(asked: Asked<'_>) -> Option<Task>
+    ensures value { result ≡ task_said (said_of asked.entry) }
     ensures can { IfSome result (λ t. CanDo t) }
 {
-    if word == "bulk" {
-        return workload_named(second);
+    match asked {
+        Asked::Replay { raw } => Some(Task::Read(InputTask::Replay { raw })),
+        Asked::Run { raw } => Some(Task::Read(InputTask::Run { raw })),
+        Asked::Show => Some(Task::Read(InputTask::Show)),
+        Asked::Widen { raw } => Some(Task::Read(InputTask::Widen { raw })),
+        Asked::Check => Some(Task::Read(InputTask::Check)),
+        Asked::Kv => Some(Task::Read(InputTask::Kv)),
+        Asked::Make {
+            inodes,
+            zones,
+            journal,
+        } => Some(Task::Make(sizes_named(inodes, zones, journal)?)),
+        Asked::Bulk { number } => workload_named(number),
     }
-    Some(Task::Read(raw_named(word, second)?))
 }
 
 fn workload_named(number: &str) -> Option<Task>
@@ -184,21 +190,6 @@ fn workload_named(number: &str) -> Option<Task>
         return None;
     }
     Some(Task::Bulk(number as u32))
-}
-
-// The command whose word has `--raw` behind it.
-fn raw_named(word: &str, raw: &str) -> Option<InputTask>
-    ensures { result ≡ raw_of raw.now (raw_named_by word.now) }
-{
-    if raw != "--raw" {
-        return None;
-    }
-    match word {
-        "replay" => Some(InputTask::Replay { raw: true }),
-        "run" => Some(InputTask::Run { raw: true }),
-        "widen" => Some(InputTask::Widen { raw: true }),
-        _ => None,
-    }
 }
 
 fn sizes_named(inodes: &str, zones: &str, journal: &str) -> Option<Sizes>

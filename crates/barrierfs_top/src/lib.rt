@@ -1,12 +1,12 @@
 //! The program but for its `main`: from the words of a command line and a source of bytes to what goes out.
 //!
-//! `barrierfs` is the top call: it runs a volume script in threads, and hands all other words to `alone`, which runs a script on
-//! one thread of the model stack and writes what a power cut leaves, as a text or as an image, writes the tree of an image,
-//! gives one longer names, checks or makes one, runs a generated workload, or the script of a key-value store.
-//! `specs/Tasks.antt` says what the words ask for, `specs/TopEnd.antt` what a call says of its end: what it did, by its fault
-//! (`specs/Top.antt`), and what it promises of the bytes that go out (`specs/Promise.antt`, of a store `specs/KeptPuts.antt`);
-//! `laws` that the image has the tree of the text. `do_words` and `run_words` are the same two calls without the report, and
-//! `run_program` is all that a `main` does.
+//! `barrierfs` is the top call: it runs a volume script in threads, and does with all other words what `alone` does, which runs a
+//! script on one thread of the model stack and writes what a power cut leaves, as a text or as an image, writes the tree of an
+//! image, gives one longer names, checks or makes one, runs a generated workload, or the script of a key-value store.
+//! `clap_words` reads the words, and `specs/Tasks.antt` says what they ask for. `specs/TopEnd.antt` says what a call says of its
+//! end: what it did, by its fault (`specs/Top.antt`), and what it promises of the bytes that go out (`specs/Promise.antt`, of a
+//! store `specs/KeptPuts.antt`); `laws` that the image has the tree of the text. `do_words` and `run_words` are the same two calls
+//! without the report, and `run_program` is all that a `main` does.
 #![tactic(auto)]
 
 mod bulk;

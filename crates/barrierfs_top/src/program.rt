@@ -97,6 +97,17 @@ pub fn do_words<H: Threads + Wait + Sync, R: Source, W: Sink, G: Gate + Sync>(
     let_go(barrierfs(rt, alloc, words, src, out, gate))
 }
 
+// Prints a fault on standard error, and behind bad words what `clap` says of them.
+fn tell<H: Eprint + AllocGlobal>(rt: &H, fault: TopFault, words: &Words) {
+    let _ = eprintln!(rt; "barrierfs: {fault}");
+    if fault != TopFault::BadWords {
+        return;
+    }
+    if let Some(text) = words.refusal(rt.alloc()) {
+        let _ = eprint!(rt; "{text}");
+    }
+}
+
 /// All that `main` does: hands the words and the standard streams to `barrierfs`, prints the fault on standard error where
 /// there is one, and answers the status.
 pub fn run_program<H: Threads + Wait + Sync + Env + Input + Print + Eprint + AllocGlobal>(
@@ -115,7 +126,7 @@ pub fn run_program<H: Threads + Wait + Sync + Env + Input + Print + Eprint + All
     let mut sink = StdSink::new(io::writer(rt));
     let ended = do_words(rt, rt.alloc(), &words, &mut source, &mut sink, &OpenGate);
     if let Some(fault) = ended.fault {
-        let _ = eprintln!(rt; "barrierfs: {fault}");
+        tell(rt, fault, &words);
     }
     ExitCode::from(ended.status)
 }

@@ -1,9 +1,9 @@
 //! `run`: a volume script whose session runs in threads; and the top call that has it beside all other words.
-ghost use Rattle.std.specs.Prelude.{◌≡◌, ◌≤◌, Option, Some, None, length, IfOk, IfErr, IsErrOf};
+ghost use Rattle.std.specs.Prelude.{◌≡◌, ◌≤◌, Option, Some, None, length, IfOk, IfErr, IfSome, IsErrOf};
 ghost use Rattle.script_grammar.specs.declared.limits.TheConstants.{MOST_SCRIPT_BYTES};
 ghost use Rattle.session_grammar.specs.WellFormed.{IsWellFormed};
 ghost use Rattle.barrierfs_top.specs.Runs.{IsRun, IsRunImage, IsRunText, IsThreadsOf};
-ghost use Rattle.barrierfs_top.specs.Tasks.{task_of};
+ghost use Rattle.barrierfs_top.specs.Tasks.{task_of, CanDo};
 ghost use Rattle.barrierfs_top.specs.Text.{output_bytes};
 ghost use Rattle.barrierfs_top.specs.Top.{status_of, stream_of, Cause, Does, IsInputFault, IsThreadsFault};
 ghost use Rattle.barrierfs_top.specs.TopEnd.{EndsFor};
@@ -11,13 +11,13 @@ ghost use Rattle.barrierfs_top.specs.declared.command_line.InputTask.{InputTask}
 ghost use Rattle.barrierfs_top.specs.declared.command_line.Task.{Task};
 ghost use Rattle.barrierfs_top.specs.declared.fault.TopFault.{TopFault};
 
-use crate::command_line::{InputTask, Words};
+use crate::command_line::{InputTask, Task, Words, run_asked};
 use crate::fault::TopFault;
 use crate::output::Output;
 use crate::run_report::RunReport;
 use crate::session::{left_image, session_text};
 use crate::threads_script::read_threads_script;
-use crate::top::{Outcome, Printed, alone, failed, fault_of, read_fault, written};
+use crate::top::{Outcome, Printed, do_asked, failed, fault_of, read_fault, written};
 use blk_base::{Sink, Source, read_all};
 use session_grammar::SessionScript;
 use session_threads::sides::Gate;
@@ -160,6 +160,25 @@ fn run<H: Threads + Wait + Sync, R: Source, W: Sink, G: Gate + Sync>(
     }
 }
 
+// Does what is asked.
+fn do_task<H: Threads + Wait + Sync, R: Source, W: Sink, G: Gate + Sync>(
+    rt: &H,
+    alloc: Global,
+    asked: Option<Task>,
+    src: &mut R,
+    out: &mut W,
+    gate: &G,
+) -> Outcome
+    requires { IfSome asked (λ t. CanDo t) }
+    ensures status { result.status ≡ status_of result.fault }
+    ensures ends { EndsFor asked (stream_of R.left R.faults src.old src.new) (stream_of W.taken W.faults out.old out.new) result.report result.fault }
+{
+    match run_asked(asked) {
+        Some(raw) => run(rt, alloc, raw, src, out, gate),
+        None => do_asked(alloc, asked, src, out),
+    }
+}
+
 /// Does what the words say: `run` reads a volume script, runs its programs in threads, where its event lines are not used, and
 /// writes the report of that session or with `--raw` the image that recovery left; all other words are those of `alone`.
 ///
@@ -176,8 +195,8 @@ pub fn barrierfs<H: Threads + Wait + Sync, R: Source, W: Sink, G: Gate + Sync>(
     ensures status { result.status ≡ status_of result.fault }
     ensures ends { EndsFor (task_of words.now) (stream_of R.left R.faults src.old src.new) (stream_of W.taken W.faults out.old out.new) result.report result.fault }
 {
-    match words.run() {
-        Some(raw) => run(rt, alloc, raw, src, out, gate),
-        None => alone(alloc, words, src, out),
+    match words.task(alloc) {
+        Ok(asked) => do_task(rt, alloc, asked, src, out, gate),
+        Err(_) => failed(TopFault::NoMemory),
     }
 }

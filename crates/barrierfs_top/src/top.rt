@@ -1,6 +1,6 @@
 //! The top call.
-ghost use Rattle.std.specs.Prelude.{◌≡◌, ℕ, ◌≤◌, Option, Some, None, Ok, length, codes, IfOk, IfErr, IsErrOf};
-ghost use Rattle.barrierfs_top.specs.Tasks.{lone_task_of, CanDo};
+ghost use Rattle.std.specs.Prelude.{◌≡◌, ℕ, ◌≤◌, Option, Some, None, Ok, length, codes, IfOk, IfErr, IfSome, IsErrOf};
+ghost use Rattle.barrierfs_top.specs.Tasks.{lone_task_of, run_of, CanDo};
 ghost use Rattle.barrierfs_top.specs.Text.{output_bytes};
 ghost use Rattle.barrierfs_top.specs.Top.{status_of, stream_of, IsReplay, IsBlocksReplay, IsBlocksFault, IsMade, IsInputFault, IsUnread, Does, Cause, WasWritten, top_fault, end_fault};
 ghost use Rattle.barrierfs_top.specs.TopEnd.{EndsFor};
@@ -248,16 +248,18 @@ fn read_and_keep<R: Source>(alloc: Global, src: &mut R) -> Result<Printed, TopFa
 }
 
 // All that comes before the first write.
-fn prepare<R: Source>(alloc: Global, words: &Words, src: &mut R) -> Result<Printed, TopFault>
-    ensures ok { IfOk result (λ p. Does (lone_task_of words.now) (stream_of R.left R.faults src.old src.new) p.report (output_bytes p.output)) }
-    ensures err { IfErr result (Cause (lone_task_of words.now) (stream_of R.left R.faults src.old src.new)) }
-    ensures words { lone_task_of words.now ≡ None → IsErrOf result TopFault.BadWords }
-    ensures made { (s : Sizes) → lone_task_of words.now ≡ Some (Task.Make s) → IfErr result (λ fault. fault ≡ TopFault.NoMemory) }
-    ensures generated { (n : ℕ) → lone_task_of words.now ≡ Some (Task.Bulk n) → IfErr result (λ fault. fault ≡ TopFault.NoMemory) }
-    ensures unread { ((c : InputTask) → lone_task_of words.now ≡ Some (Task.Read c) → ⊥) → IsUnread (stream_of R.left R.faults src.old src.new) }
+fn prepare<R: Source>(alloc: Global, asked: Option<Task>, src: &mut R) -> Result<Printed, TopFault>
+    requires can { IfSome asked (λ t. CanDo t) }
+    requires lone { IfSome asked (λ t. run_of t ≡ None) }
+    ensures ok { IfOk result (λ p. Does asked (stream_of R.left R.faults src.old src.new) p.report (output_bytes p.output)) }
+    ensures err { IfErr result (Cause asked (stream_of R.left R.faults src.old src.new)) }
+    ensures words { asked ≡ None → IsErrOf result TopFault.BadWords }
+    ensures made { (s : Sizes) → asked ≡ Some (Task.Make s) → IfErr result (λ fault. fault ≡ TopFault.NoMemory) }
+    ensures generated { (n : ℕ) → asked ≡ Some (Task.Bulk n) → IfErr result (λ fault. fault ≡ TopFault.NoMemory) }
+    ensures unread { ((c : InputTask) → asked ≡ Some (Task.Read c) → ⊥) → IsUnread (stream_of R.left R.faults src.old src.new) }
     ensures steady { (IsErrOf result TopFault.SourceFault → ⊥) → R.faults src.new ≡ R.faults src.old }
 {
-    let Some(task) = words.lone_task() else {
+    let Some(task) = asked else {
         return Err(TopFault::BadWords);
     };
     match task {
@@ -288,7 +290,25 @@ pub fn alone<R: Source, W: Sink>(alloc: Global, words: &Words, src: &mut R, out:
     ensures status { result.status ≡ status_of result.fault }
     ensures ends { EndsFor (lone_task_of words.now) (stream_of R.left R.faults src.old src.new) (stream_of W.taken W.faults out.old out.new) result.report result.fault }
 {
-    match prepare(alloc, words, src) {
+    match words.lone_task(alloc) {
+        Ok(asked) => do_asked(alloc, asked, src, out),
+        Err(_) => failed(TopFault::NoMemory),
+    }
+}
+
+// Does what is asked, where that needs no threads.
+pub(crate) fn do_asked<R: Source, W: Sink>(
+    alloc: Global,
+    asked: Option<Task>,
+    src: &mut R,
+    out: &mut W,
+) -> Outcome
+    requires can { IfSome asked (λ t. CanDo t) }
+    requires lone { IfSome asked (λ t. run_of t ≡ None) }
+    ensures status { result.status ≡ status_of result.fault }
+    ensures ends { EndsFor asked (stream_of R.left R.faults src.old src.new) (stream_of W.taken W.faults out.old out.new) result.report result.fault }
+{
+    match prepare(alloc, asked, src) {
         Ok(printed) => written(printed, out),
         Err(fault) => failed(fault),
     }

@@ -4,7 +4,8 @@ use blk_base::{MemSink, MemSource, Sink, Source};
 use std::alloc::Global;
 use std::process::Abort;
 
-fn words_of(rt: &impl Abort, alloc: Global, list: &[&str]) -> Words {
+/// These words.
+pub fn words_of(rt: &impl Abort, alloc: Global, list: &[&str]) -> Words {
     let mut words = Words::make(alloc);
     for word in list {
         let pushed: Result<_, _> = words.push(alloc, word);

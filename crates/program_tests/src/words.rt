@@ -1,5 +1,5 @@
 //! The words of a process, and those of a run, which needs threads; and the texts of the faults.
-use crate::told::ended;
+use crate::told::{ended, words_of};
 use barrierfs_top::{InputTask, Task, TopFault, given_words};
 use mount_make::ImageFault;
 use script_grammar::ScriptKind;
@@ -39,7 +39,8 @@ impl Env for Given {
 
 // The task of a process with these words.
 fn task_of(alloc: Global, words: [&'static [u8]; 2]) -> Result<Option<Task>, TopFault> {
-    given_words(&(Given { words }, alloc)).map(|words| words.task())
+    let words = given_words(&(Given { words }, alloc))?;
+    words.task(alloc).map_err(|_| TopFault::NoMemory)
 }
 
 // A word beside the task that it names.
@@ -66,6 +67,54 @@ fn expect_tasks(
 #[test]
 fn takes_words_that_are_texts(rt: HostRuntime) {
     expect_tasks(&rt, rt.alloc(), &GIVEN);
+}
+
+// Lists of words, and what is said of them behind `bad words`.
+static REFUSALS: [(&[&str], Option<&str>); 14] = [
+    (
+        &["reply"],
+        Some(
+            "error: unrecognized subcommand 'reply'\n\n  tip: a similar subcommand exists: 'replay'\n\nUsage: barrierfs <COMMAND>\n",
+        ),
+    ),
+    (
+        &["make", "32"],
+        Some(
+            "error: the following required arguments were not provided:\n  <Z>\n  <J>\n\nUsage: barrierfs make <I> <Z> <J>\n",
+        ),
+    ),
+    (
+        &["bulk", "5", "6"],
+        Some("error: unexpected argument '6' found\n\nUsage: barrierfs bulk <N>\n"),
+    ),
+    (
+        &["replay", "x"],
+        Some("error: unexpected argument 'x' found\n\nUsage: barrierfs replay [OPTIONS]\n"),
+    ),
+    (
+        &[],
+        Some(
+            "error: 'barrierfs' requires a subcommand but one was not provided\n  [subcommands: replay, run, show, widen, check, kv, make, bulk]\n\nUsage: barrierfs <COMMAND>\n",
+        ),
+    ),
+    (&["replay", "--row"], None),
+    (&["replay", "--"], None),
+    (&["make", "-32", "64", "128"], None),
+    (&["bulk", "-"], None),
+    (&["reply", "-x"], None),
+    (&["bulk", "+5"], None),
+    (&["bulk", "10001"], None),
+    (&["make", "32", "5", "128"], None),
+    (&["replay"], None),
+];
+
+#[test]
+fn says_what_clap_says(rt: HostRuntime) {
+    for (list, wanted) in &REFUSALS {
+        let words = words_of(&rt, rt.alloc(), list);
+        let found = words.refusal(rt.alloc());
+        assert_eq!(rt; found.as_deref(), *wanted, "{list:?}");
+    }
 }
 
 // What needs no threads does not know the words of a run.

@@ -1,36 +1,19 @@
-use Rattle.std.proofs.Common.{Option, sym, subst, refl}
-use Rattle.barrierfs_top.specs.declared.fault.TopFault.TheVariants as faults
-use Rattle.barrierfs_top.specs.declared.run_report.RunReport.{RunReport}
+use Rattle.std.proofs.Common.{Option, refl, subst}
+use Rattle.barrierfs_top.specs.declared.command_line.Task.{Task}
 use Rattle.barrierfs_top.specs.Tasks.{lone_task_of}
-use Rattle.barrierfs_top.specs.Text.{output_bytes}
 use Rattle.barrierfs_top.specs.Top.{stream_of}
 use Rattle.barrierfs_top.specs.TopEnd.{EndsFor}
-use Rattle.barrierfs_top.proofs.Endings.{ends_written, ends_refused, refused_as}
-use Rattle.barrierfs_top.proofs.OneEnd.{not_both, same_err}
+use Rattle.barrierfs_top.proofs.Endings.{ends_unasked}
 use Rattle.barrierfs_top.proofs.top.alone.Goals as goal
 
 pub returns-in-Ok-clause-ends : goal.returns-in-Ok-clause-ends
 returns-in-Ok-clause-ends g c =
-    let source = stream_of g.R.Source.left g.R.Source.faults c.args.src.now c.prepare.new.src in
-    let sink = stream_of g.W.Sink.taken g.W.Sink.faults c.args.out.now c.written.new.out in
-    let printed = c.in-Ok.printed in
-    let asked = lone_task_of c.args.words.now in
-    subst (λ (o : Option RunReport). EndsFor asked source sink o c.written.result.fault) (sym c.written.ensures.report)
-    (ends_written asked source sink printed.report (output_bytes printed.output) c.in-Ok.ensures.ok c.written.result.fault c.written.ensures.written
-    (c.in-Ok.ensures.steady (λ is. not_both printed faults.SourceFault is)) c.written.ensures.steady)
+    let source = stream_of g.R.Source.left g.R.Source.faults c.args.src.now c.do_asked.new.src in
+    let sink = stream_of g.W.Sink.taken g.W.Sink.faults c.args.out.now c.do_asked.new.out in
+    subst (λ (o : Option Task). EndsFor o source sink c.do_asked.result.report c.do_asked.result.fault) c.in-Ok.ensures.value c.do_asked.ensures.ends
 
 pub returns-in-Err-clause-ends : goal.returns-in-Err-clause-ends
 returns-in-Err-clause-ends g c =
-    let source = stream_of g.R.Source.left g.R.Source.faults c.args.src.now c.prepare.new.src in
+    let source = stream_of g.R.Source.left g.R.Source.faults c.args.src.now c.args.src.now in
     let sink = stream_of g.W.Sink.taken g.W.Sink.faults c.args.out.now c.args.out.now in
-    let fault = c.in-Err.fault in
-    let asked = lone_task_of c.args.words.now in
-    refused_as asked source sink fault c.failed.result.report c.failed.result.fault c.failed.ensures.report c.failed.ensures.fault
-    (ends_refused asked source sink fault (record {
-      cause = c.in-Err.ensures.err;
-      words = λ none. same_err fault faults.BadWords (c.in-Err.ensures.words none);
-      made = λ s asks. c.in-Err.ensures.made s asks;
-      generated = λ n asks. c.in-Err.ensures.generated n asks;
-      unread = c.in-Err.ensures.unread;
-      steady = λ other. c.in-Err.ensures.steady (λ is. other (same_err fault faults.SourceFault is));
-    }) refl refl)
+    ends_unasked (lone_task_of c.args.words.now) source sink c.failed.result.report c.failed.result.fault c.failed.ensures.report c.failed.ensures.fault (refl, refl) refl refl
