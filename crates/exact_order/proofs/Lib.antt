@@ -1,0 +1,13 @@
+pub mod Alone
+pub mod Forward
+pub mod Images
+pub mod Kept
+pub mod Leaving
+pub mod Marks
+pub mod Members
+pub mod Passing
+pub mod Prefix
+pub mod Reached
+pub mod Said
+pub mod Standing
+pub mod Waiting

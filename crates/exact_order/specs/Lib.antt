@@ -1,0 +1,3 @@
+pub mod Left
+pub mod Events
+pub mod Example
