@@ -24,11 +24,11 @@ pub mod TakingSteps
 pub mod Standing
 pub mod Rounds
 pub mod LessFirst
-pub mod LimitStays
 pub mod LeftCounts
 pub mod LowerHosts
 pub mod StillActor
 pub mod StillHosts
+pub mod FullHosts
 pub mod LowerParts
 pub mod SettledParts
 pub mod MadeRounds

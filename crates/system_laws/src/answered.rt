@@ -1,5 +1,5 @@
-//! That no session gets stuck: on any scheduler, and on any device that stays on and of which nothing fails, rounds enough bring
-//! every call to its answer, or the session to its limit.
+//! That no session gets stuck: on any scheduler, and on any device that stays on and of which nothing fails, rounds enough leave
+//! no thread a call, also where the session is at its limit.
 //!
 //! The public functions are laws: they only call laws, and their clauses say it.
 //!

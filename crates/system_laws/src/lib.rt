@@ -6,7 +6,7 @@
 //! `sessions` has the images of sessions, whole or cut, `widened` those of `widen`, `replays` those that `replay --raw`
 //! writes, and `tidy` that volumes that were made have no leftovers. `covered` has the tree that was recovered,
 //! `transaction_size` what calls add to a transaction, `progress` what steps of the host get done, and `answered` that rounds
-//! enough bring every call to its answer, or the session to its limit.
+//! enough leave no thread a call.
 //!
 //! Stands on `vol_check::kept_clean`, `vol_check` and `session_core`.
 #![tactic(auto)]

@@ -55,7 +55,7 @@ flush_note (notes.Commit tx) e = cc
 flush_note (notes.Home block) e = cc
 flush_note notes.Raw e = cc
 
-flush_from : (id i : ℕ) (ns : List Note) → flush_above id i ns ≡ true → (p : ℕ) × (id < i + p) × (slice_get ns p ≡ Some notes.Flush)
+pub flush_from : (id i : ℕ) (ns : List Note) → flush_above id i ns ≡ true → (p : ℕ) × (id < i + p) × (slice_get ns p ≡ Some notes.Flush)
 flush_from id i [] e = absurd (false≢true e)
 flush_from id i (n ∷ ns) e = ⊎_elim here (λ above. later (flush_from id (i + 1) ns above)) (or_cases (is_flush_note n && nat_lt id i) (flush_above id (i + 1) ns) e)
   where

@@ -2,7 +2,7 @@
 use Rattle.std.specs.List.{list_any, range_with_len}
 use Rattle.std.specs.Prelude.{◌≡◌, ◌⊎◌, ℕ, zero, suc, ◌+◌, ◌-◌, ◌==◌, ◌<◌, ◌≤◌, Bool, true, false, not, List, [], ◌∷◌, ◌++◌, length, map, drop, Option, option_map, Some, None, slice_get, slice_index_or, refl, if◌then◌else◌}
 use Rattle.std.proofs.Common.{sym, ap, subst, ◌∙◌, inl, inr, arith}
-use Rattle.std.proofs.lemmas.Bool.{cases_Bool, cases_lt, ne_eqb, lt-ltb, leb-true}
+use Rattle.std.proofs.lemmas.Bool.{cases_Bool, cases_lt, ne_eqb, lt-ltb}
 use Rattle.std.proofs.lemmas.List.{append-nil, append_assoc, drop_all, length-map}
 use Rattle.std.proofs.lemmas.Option.{none-some, same_Some, slice_get-map}
 use Rattle.blk_base.specs.Members.{In}
@@ -37,10 +37,8 @@ use Rattle.host_machine.specs.Outcomes as outcomes
 use Rattle.host_machine.specs.State.{Thread, Host}
 use Rattle.host_machine.specs.laws.Contract.{Over}
 use Rattle.host_machine.specs.runs.Runs as runs
-use Rattle.host_machine.specs.runs.Runs.{Event, AreBegun, Commit, stepped, steps}
-use Rattle.host_machine.proofs.RunsLemmas.StartHost.{none_begun as begun_none}
+use Rattle.host_machine.specs.runs.Runs.{Event, Commit, stepped, steps}
 use Rattle.minix_host.specs.ByteCalls.{ByteCall, HasBytes}
-use Rattle.minix_host.specs.Calls.{kind_of}
 use Rattle.minix_host.specs.PlainTrees.{PlainTree}
 use Rattle.minix_host.specs.Sessions.{Opening, over}
 use Rattle.minix_host.specs.Volumes.{zones_of}
@@ -54,7 +52,7 @@ use Rattle.session_core.specs.run.machine.Machine.{SessionState, Start, opened_s
 use Rattle.session_core.specs.run.machine.MadeStart.{made_start, IsNew}
 use Rattle.session_core.proofs.RunLemmas.MachineLemmas.MadeStart.{made_can_start}
 use Rattle.session_core.proofs.RunLemmas.MachineLemmas.SessionRuns.{events_append, run_host, opened_holds, run_holds}
-use Rattle.system_laws.specs.answered.Rounds.{HaveEnded, RoundsFinish, IsFull}
+use Rattle.system_laws.specs.answered.Rounds.{HaveEnded, RoundsFinish}
 use Rattle.system_laws.specs.transaction_size.Sizes.{HaveLines}
 use Rattle.system_laws.proofs.MadeSession as opened
 use Rattle.system_laws.proofs.ProgressLemmas.MadeBarriers as barriers
@@ -64,21 +62,20 @@ use Rattle.system_laws.proofs.TransactionSizeLemmas.Hosts.{IsKept}
 use Rattle.system_laws.proofs.TransactionSizeLemmas.MadeShare as made
 use Rattle.system_laws.proofs.AnsweredLemmas.BegunCalls.{AreFirst, none_begun, first_at, steps_first}
 use Rattle.system_laws.proofs.AnsweredLemmas.HostFacts.{HasNoPlan}
-use Rattle.system_laws.proofs.AnsweredLemmas.Drained.{IsDrained}
 use Rattle.system_laws.proofs.AnsweredLemmas.Emptied.{Stands}
 use Rattle.system_laws.proofs.AnsweredLemmas.Ends.{Grows, steps_grow, no_calls, all_done}
+use Rattle.system_laws.proofs.AnsweredLemmas.FullHosts.{none_due, full_ended}
 use Rattle.system_laws.proofs.AnsweredLemmas.Going.{GoesOn}
 use Rattle.system_laws.proofs.AnsweredLemmas.HoldFacts.{HoldFacts}
 use Rattle.system_laws.proofs.AnsweredLemmas.HoldParts.{IsOf}
 use Rattle.system_laws.proofs.AnsweredLemmas.Holds.{IsTimely, step_holds, has_commit, opened_holds as none_held}
 use Rattle.system_laws.proofs.AnsweredLemmas.LessFirst.{less_then, least_first}
-use Rattle.system_laws.proofs.AnsweredLemmas.LimitStays.{begun_stay, limit_stays, same_limit}
 use Rattle.system_laws.proofs.AnsweredLemmas.LowerHosts.{caller_lowers, commit_lowers}
 use Rattle.system_laws.proofs.AnsweredLemmas.LowerParts.{IsBelow, accepts, dispatches, receives, transfers, persists, answers as answers_come, flushes, lowers}
 use Rattle.system_laws.proofs.AnsweredLemmas.MatchingHosts.{kept_matches}
 use Rattle.system_laws.proofs.AnsweredLemmas.Matching.{Matches}
 use Rattle.system_laws.proofs.AnsweredLemmas.Rounds.{HostLess, Less, by_host as by_host_less}
-use Rattle.system_laws.proofs.AnsweredLemmas.SettledParts.{settled}
+use Rattle.system_laws.proofs.AnsweredLemmas.SettledParts.{IsSettled, settled}
 use Rattle.system_laws.proofs.AnsweredLemmas.StillHosts.{all_ended}
 use Rattle.system_laws.proofs.AnsweredLemmas.Standing.{hosts_push, all_stand}
 use Rattle.system_laws.proofs.AnsweredLemmas.Told.{timely, taken_told}
@@ -414,9 +411,9 @@ module _ {K S : Type 0} (k : SchedSteps K) (m : Machine S) (sched_valid : K → 
     below_still : (e : CoreEvent) → IsBelow e → happens o k m (at x) e ≡ at x
     below_still e is = in_back e (inr (below_in e is))
 
-    module _ (empty : (at x).queues.submission ≡ []) (drained : IsDrained (host x).journal.flush) (free : at_limit (host x).journal.flush ≡ false) where
+    module _ (is : IsSettled o k m sched_valid good left scheduler going (at x)) where
       room : submission_full (at x) ≡ false
-      room = ap (λ l. is_full (at x).queues.capacity l) empty ∙ ap not (lt-ltb 0 (at x).queues.capacity (stands x).queues)
+      room = ap (λ l. is_full (at x).queues.capacity l) is.empty ∙ ap not (lt-ltb 0 (at x).queues.capacity (stands x).queues)
 
       still_thread : (t : ℕ) → (advance over_calls.model over_calls.setup false (host x) t).host ≡ host x
       still_thread t = elim (cases_lt t (length programs)) [
@@ -436,27 +433,29 @@ module _ {K S : Type 0} (k : SchedSteps K) (m : Machine S) (sched_valid : K → 
               by None is = ap (λ (th : Option (Thread Call)). (elim th as (λ _. Stepped VolumeNow Call Reply) [ None ↦ record { host = host x; step = outcomes.Ended } | Some th ↦ step_thread over_calls.model over_calls.setup false (host x) t th.begun th.calls ]).host) is
               by (Some th) is = absurd (let low = slice_get-length (host x).threads t th is in let many = threads_stay x in omega (arith, low, many, high))
 
-      have_ended : HaveEnded (host x)
-      have_ended = all_ended over_calls.model over_calls.setup (host x) (facts x) drained free
+      below_limit : at_limit (host x).journal.flush ≡ false → HaveEnded (host x)
+      below_limit free = all_ended over_calls.model over_calls.setup (host x) (facts x) (is.drained (is.due free)) free
           (λ plan z i. zones_running x plan z i)
           (λ p phase none. plan_left x p phase none)
           still_thread
           (ap (λ b. (commit_step over_calls.model over_calls.setup b (host x)).host) (sym room) ∙ ap (λ (r : SessionState K S). r.host) (in_back events.Commit (inl refl)))
 
-    ends_or_full : HaveEnded (host x) ⊎ (at_limit (host x).journal.flush ≡ true)
-    ends_or_full = by (settled o k m sched_valid good left scheduler going (at x) (stands x) (matches x) below_still)
-      where
-        by : ((at x).queues.submission ≡ []) × ((at_limit (host x).journal.flush ≡ true) ⊎ IsDrained (host x).journal.flush) → HaveEnded (host x) ⊎ (at_limit (host x).journal.flush ≡ true)
-        by (empty, inl limit) = inr limit
-        by (empty, inr drained) = elim (cases_Bool (at_limit (host x).journal.flush)) [ inl limit ↦ inr limit | inr free ↦ inl (have_ended empty drained free) ]
+      at_its_limit : at_limit (host x).journal.flush ≡ true → HaveEnded (host x)
+      at_its_limit full = full_ended over_calls.model over_calls.setup (host x) (facts x) full still_thread (is.drained (none_due over_calls.model over_calls.setup (host x) (facts x) full still_thread))
+
+      have_ended : HaveEnded (host x)
+      have_ended = elim (cases_Bool (at_limit (host x).journal.flush)) [ inl full ↦ at_its_limit full | inr free ↦ below_limit free ]
+
+    all_end : HaveEnded (host x)
+    all_end = have_ended (settled o k m sched_valid good left scheduler going (at x) (stands x) (matches x) below_still)
 
   -- ---- so rounds get it done
 
-  abbrev IsOver : List CoreEvent → Type 0
-  IsOver x = HaveEnded (host x) ⊎ (at_limit (host x).journal.flush ≡ true)
+  abbrev HaveDone : List CoreEvent → Type 0
+  HaveDone x = HaveEnded (host x)
 
   abbrev DoneBy : List CoreEvent → Type 0
-  DoneBy x = (n : ℕ) × IsOver (x ++ repeated n one_round)
+  DoneBy x = (n : ℕ) × HaveDone (x ++ repeated n one_round)
 
   round_done : (x : List CoreEvent) → ((y : List CoreEvent) → Less k m left (at y) (at x) → DoneBy y) → DoneBy x
   round_done x again = by (list_lowers x one_round (λ e i. i))
@@ -464,46 +463,28 @@ module _ {K S : Type 0} (k : SchedSteps K) (m : Machine S) (sched_valid : K → 
       by : AllLower x one_round → DoneBy x
       by (inl less) =
           let rest = again (x ++ one_round) (subst (λ r. Less k m left r (at x)) (sym (at_more x one_round)) less) in
-          (suc rest.0, subst IsOver (append_assoc x one_round (repeated rest.0 one_round)) rest.1)
-      by (inr p) = (0, subst IsOver (sym (append-nil x)) (ends_or_full x p.1))
+          (suc rest.0, subst HaveDone (append_assoc x one_round (repeated rest.0 one_round)) rest.1)
+      by (inr p) = (0, subst HaveDone (sym (append-nil x)) (all_end x p.1))
 
   pub done_by : (x : List CoreEvent) → DoneBy x
   done_by x = least_first k m left (List CoreEvent) at DoneBy round_done x
 
-  -- ---- what is over stays over
+  -- ---- and more rounds leave it so
 
-  full_stays : (x more : List CoreEvent) → at_limit (host x).journal.flush ≡ true → at_limit (host (x ++ more)).journal.flush ≡ true
-  full_stays x more limit =
-      subst (λ (h : Host VolumeNow Call Reply). at_limit h.journal.flush ≡ true) (sym (ap (λ (r : SessionState K S). r.host) (at_more x more) ∙ run_host o k m (at x) more))
-      (limit_stays over_calls (host x) (subst (λ (h : Host VolumeNow Call Reply). AreBegun kind_of h.threads) (sym (run_host o k m first x)) (begun_stay over_calls first.host (begun_none kind_of programs) (hosts x))) (host_events o k m (at x) more) limit)
-
-  stays_over : (x more : List CoreEvent) → IsOver x → IsOver (x ++ more)
-  stays_over x more (inl all) = inl (all_done (host (x ++ more)).threads (let g = (grows x (x ++ more) (more, refl)).counted in let none = no_calls (host x).threads all in omega (arith, g, none)))
-  stays_over x more (inr limit) = inr (full_stays x more limit)
+  stay_done : (x more : List CoreEvent) → HaveDone x → HaveDone (x ++ more)
+  stay_done x more all = all_done (host (x ++ more)).threads (let g = (grows x (x ++ more) (more, refl)).counted in let none = no_calls (host x).threads all in omega (arith, g, none))
 
   -- as many rounds, and more behind them
   more_rounds : (n i : ℕ) → repeated (n + i) one_round ≡ repeated n one_round ++ repeated i one_round
   more_rounds zero i = ap (λ n. repeated n one_round) (let none : 0 + i ≡ i = omega arith in none)
   more_rounds (suc n) i = ap (λ n. repeated n one_round) (let next : suc n + i ≡ suc (n + i) = omega arith in next) ∙ (ap (λ l. one_round ++ l) (more_rounds n i) ∙ sym (append_assoc one_round (repeated n one_round) (repeated i one_round)))
 
-  limit_is : (x : List CoreEvent) → (host x).journal.flush.limit ≡ limit
-  limit_is x = subst (λ (h : Host VolumeNow Call Reply). h.journal.flush.limit ≡ limit) (sym (run_host o k m first x)) (same_limit over_calls first.host (begun_none kind_of programs) (hosts x))
-
-  -- said by the limit with which the session began
-  by_limit : (x : List CoreEvent) → IsOver x → HaveEnded (host x) ⊎ IsFull limit (host x)
-  by_limit x (inl all) = inl all
-  by_limit x (inr full) =
-      let low = leb-true (host x).journal.flush.limit (length (host x).journal.flush.requests) full in
-      let most = subst (λ (h : Host VolumeNow Call Reply). length h.journal.flush.requests ≤ h.journal.flush.limit) (sym (same x)) (kept x).sound.room in
-      let is = limit_is x in
-      inr (omega (arith, low, most, is))
-
-  pub rounds_finish : (es : List CoreEvent) → RoundsFinish limit host es (length programs)
+  pub rounds_finish : (es : List CoreEvent) → RoundsFinish host es (length programs)
   rounds_finish es = by (done_by es)
     where
-      by : DoneBy es → RoundsFinish limit host es (length programs)
-      by (n, over_then) = record {
+      by : DoneBy es → RoundsFinish host es (length programs)
+      by (n, done) = record {
         rounds = n;
-        ended = λ i low. by_limit (es ++ repeated i one_round) (subst (λ l. IsOver (es ++ l)) (sym (more_rounds n (i - n)) ∙ ap (λ n. repeated n one_round) (let sum : n + (i - n) ≡ i = omega (arith, low) in sum))
-            (subst IsOver (append_assoc es (repeated n one_round) (repeated (i - n) one_round)) (stays_over (es ++ repeated n one_round) (repeated (i - n) one_round) over_then)));
+        ended = λ i low. subst (λ l. HaveDone (es ++ l)) (sym (more_rounds n (i - n)) ∙ ap (λ n. repeated n one_round) (let sum : n + (i - n) ≡ i = omega (arith, low) in sum))
+            (subst HaveDone (append_assoc es (repeated n one_round) (repeated (i - n) one_round)) (stay_done (es ++ repeated n one_round) (repeated (i - n) one_round) done));
       }

@@ -92,6 +92,9 @@ module _ {T V C R : Type 0} (M : Model T V C R) (u : Setup) (h : Host V C R) (t 
       pub hinders : at_limit h.journal.flush ≡ false → (cause : Cause) → hindrance M u h c ≡ Some cause → (advance M u false h t).host ≡ hindered M u h cause
       hinders free cause e = as_plain (Some cause) e ∙ ap (λ b. (waiting_step cause b).host) free
 
+      pub full_up : at_limit h.journal.flush ≡ true → (cause : Cause) → hindrance M u h c ≡ Some cause → (advance M u false h t).host ≡ (end_with M u h t c next.rest SessionFull).host
+      full_up full cause e = as_plain (Some cause) e ∙ ap (λ b. (waiting_step cause b).host) full
+
     -- a plain call that the tree accepts is left
     pub splits : (P : Type 0) → (Done → P) → (M.reply h.volume c ≡ None → is_begun (M.kind c) ≡ false → P) → P
     splits P done other = by (M.reply h.volume c) refl

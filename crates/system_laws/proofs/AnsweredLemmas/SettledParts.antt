@@ -1,8 +1,8 @@
 -- Where no event of what is below the host changes anything, all is done there.
-use Rattle.std.specs.Prelude.{◌≡◌, [], ◌⊎◌, ℕ, ◌<◌, ◌≤◌, true, false, List, ◌∷◌, ◌++◌, length, Option, Some, None, slice_get, refl, if◌then◌else◌}
+use Rattle.std.specs.Prelude.{◌≡◌, [], ℕ, ◌<◌, ◌≤◌, Bool, true, false, List, ◌∷◌, ◌++◌, length, Option, Some, None, slice_get, refl, if◌then◌else◌}
 use Rattle.std.specs.Option.{option_to_list}
-use Rattle.std.proofs.Common.{sym, ap, subst, ◌∙◌, inl, inr, ⊎_elim, arith}
-use Rattle.std.proofs.lemmas.Bool.{cases_Bool, cases_lt, lt-ltb}
+use Rattle.std.proofs.Common.{sym, ap, subst, ◌∙◌, ⊎_elim, arith}
+use Rattle.std.proofs.lemmas.Bool.{cases_lt, lt-ltb}
 use Rattle.std.proofs.lemmas.List.{append-nil, length-append}
 use Rattle.blk_base.specs.Members.{In}
 use Rattle.blk_base.specs.laws.Members.{slice_get-in_range}
@@ -47,6 +47,10 @@ no_value o never = by o refl
     by : (p : Option _) → o ≡ p → o ≡ None
     by None e = e
     by (Some x) e = absurd (never x e)
+
+true_never : (b : Bool) → (b ≡ true → ⊥) → b ≡ false
+true_never true never = absurd (never refl)
+true_never false never = refl
 
 some_is_none : {A : Type 0} (x : A) → ◌≡◌ {A = Option A} None (Some x) → ⊥
 some_is_none x e = cc
@@ -163,25 +167,24 @@ module _ {K S : Type 0} (s : Opening) (k : SchedSteps K) (m : Machine S) (sched_
         ∙ (ap (λ l. f.taken ++ ([] ++ [] ++ l)) ((going.device.answers r.dev st.holds.dev).1.none (none_next empty))
         ∙ append-nil f.taken)))
 
-    ended : Matches f → (at_limit f ≡ true) ⊎ IsDrained f
-    ended ms = by (cases_Bool (flush_due f))
-      where
-        due : flush_due f ≡ true → (at_limit f ≡ true) ⊎ (at_limit f ≡ false) → (at_limit f ≡ true) ⊎ IsDrained f
-        due is (inl limit) = inl limit
-        due is (inr free) =
-            let more = length-append f.requests (record { id = length f.requests; kind = puts.Flush; ordered = true; barrier = true } ∷ []) in
-            absurd (no_longer (length f.requests) (length (submit_flush f).requests) (omega (arith, more))
-            (sym (ap (λ (x : X). length x.host.journal.flush.requests) (sym (sends_flush s k m r is free none_submitted st.queues few) ∙ still events.FlushStep flushes))))
+    -- a flush that is due goes out below the limit, and once none is, all is done
+    none_due : at_limit f ≡ false → flush_due f ≡ true → ⊥
+    none_due free due =
+        let more = length-append f.requests (record { id = length f.requests; kind = puts.Flush; ordered = true; barrier = true } ∷ []) in
+        no_longer (length f.requests) (length (submit_flush f).requests) (omega (arith, more))
+        (sym (ap (λ (x : X). length x.host.journal.flush.requests) (sym (sends_flush s k m r due free none_submitted st.queues few) ∙ still events.FlushStep flushes)))
 
-        idles : flush_due f ≡ false → IsDrained f
-        idles none =
-            all_drained f ms (λ id low. let c = done id low in (c.0, subst (In c.0) (all_told (none_queued none)) c.1, c.2))
-            (λ c i. each_of s k m sched_valid good left scheduler going r st c (taken_told s k m sched_valid good left scheduler going r st c i)) none
+    drained : Matches f → flush_due f ≡ false → IsDrained f
+    drained ms none =
+        all_drained f ms (λ id low. let c = done id low in (c.0, subst (In c.0) (all_told (none_queued none)) c.1, c.2))
+        (λ c i. each_of s k m sched_valid good left scheduler going r st c (taken_told s k m sched_valid good left scheduler going r st c i)) none
 
-        by : (flush_due f ≡ true) ⊎ (flush_due f ≡ false) → (at_limit f ≡ true) ⊎ IsDrained f
-        by (inl is) = due is (cases_Bool (at_limit f))
-        by (inr none) = inr (idles none)
+  -- the host may go on
+  pub record IsSettled (r : X) : Type 0 where
+    pub empty : r.queues.submission ≡ []
+    -- a flush is due only at the limit
+    pub due : at_limit r.host.journal.flush ≡ false → flush_due r.host.journal.flush ≡ false
+    pub drained : flush_due r.host.journal.flush ≡ false → IsDrained r.host.journal.flush
 
-  pub settled : (r : SessionState K S) → Stands s k m sched_valid good left scheduler going r → Matches r.host.journal.flush → ((e : CoreEvent) → IsBelow e → happens s k m r e ≡ r)
-      → (r.queues.submission ≡ []) × ((at_limit r.host.journal.flush ≡ true) ⊎ IsDrained r.host.journal.flush)
-  settled r st ms still = (none_submitted r st still, ended r st still ms)
+  pub settled : (r : X) → Stands s k m sched_valid good left scheduler going r → Matches r.host.journal.flush → ((e : CoreEvent) → IsBelow e → happens s k m r e ≡ r) → IsSettled r
+  settled r st ms still = record { empty = none_submitted r st still; due = λ free. true_never (flush_due r.host.journal.flush) (none_due r st still free); drained = drained r st still ms }

@@ -2,7 +2,7 @@
 use Rattle.std.specs.List.{list_any}
 use Rattle.std.specs.Prelude.{◌≡◌, ◌⊎◌, ℕ, ◌-◌, ◌<◌, ◌==◌, ◌&&◌, ◌||◌, nat_lt, Bool, true, false, List, [], ◌∷◌, length, is_none, Option, Some, None, slice_get, slice_index_or, set, refl, if◌then◌else◌}
 use Rattle.std.proofs.Common.{sym, ap, subst, ◌∙◌, inl, inr, arith}
-use Rattle.std.proofs.lemmas.Bool.{cases_Bool, false≢true, lt-ltb, ltb-true}
+use Rattle.std.proofs.lemmas.Bool.{cases_Bool, false≢true, both_ways, lt-ltb, ltb-true}
 use Rattle.std.proofs.lemmas.Option.{none-some, same_Some}
 use Rattle.blk_base.specs.Members.{In}
 use Rattle.blk_base.specs.laws.Members.{list_any-In, slice_get-in_range, slice_get-length}
@@ -35,8 +35,19 @@ use Rattle.system_laws.proofs.ProgressLemmas.Targets.{waits_for}
 
 module _ {T V C R : Type 0} (M : Model T V C R) (u : Setup) (h : Host V C R) where
   -- a step that ends a call changes the host
-  ended_differs : (t : ℕ) (c : C) (rest : List C) (e : Ending R) → (end_with M u h t c rest e).host ≡ h → ⊥
+  pub ended_differs : (t : ℕ) (c : C) (rest : List C) (e : Ending R) → (end_with M u h t c rest e).host ≡ h → ⊥
   ended_differs t c rest e same = pushed_differs h.history _ (ap (λ (h : Host V C R). h.history) same)
+
+  -- a step that answers a call, or lets it begin, changes the host
+  pub undone : (t : ℕ) (c : C) → (advance M u false h t).host ≡ h → IsNext h t c → Done M u h t c → ⊥
+  undone t c still next (replies reply e) =
+      let now = subst (λ (x : Host V C R). EndsAt x.history (length h.history) t c (Answered reply)) still e in
+      let low = slice_get-length h.history (length h.history) _ now in
+      omega (arith, low)
+  undone t c still next (enters call) =
+      let now = subst (λ (x : Host V C R). IsInCall x t c) still call in
+      let one = same_Some now.thread next.thread (sym now.stands ∙ next.stands) in
+      none-some now.begun (sym next.unbegun ∙ (sym (ap (λ (th : Thread C). th.begun) one) ∙ now.has_begun))
 
   wanting_differs : h.journal.running.wanted ≡ false → wanting M u h ≡ h → ⊥
   wanting_differs unwanted same = let no : true ≡ false = ap (λ (h : Host V C R). h.journal.running.wanted) same ∙ unwanted in cc
@@ -51,6 +62,17 @@ module _ {T V C R : Type 0} (M : Model T V C R) (u : Setup) (h : Host V C R) whe
     said_differs t c rest x (needs_one w id need is) low none same =
         let now : w ≡ wait_of h.journal t = sym (set_at no_wait h.journal.flush.waits t w low) ∙ ap (λ (h : Host V C R). wait_of h.journal t) (sym is ∙ same) in
         none-some id (sym none ∙ (sym (ap (λ (w : Wait). w.need) now) ∙ need))
+
+    -- a thread whose wait passes a test that no thread passes which waits for nothing is in a call
+    pub in_call : (test : Wait → Bool) → test no_wait ≡ false → (t : ℕ) → test (wait_of h.journal t) ≡ true → (c : C) × IsInCall h t c
+    in_call test fails t passes = let th = slice_get-in_range h.threads t within in by th.0 th.1 th.0.begun refl
+      where
+        within : t < length h.threads
+        within = subst (λ n. t < n) (sym facts.counted) (place_within test no_wait h.journal.flush.waits t fails passes)
+
+        by : (th : Thread C) → slice_get h.threads t ≡ Some th → (o : Option Begun) → th.begun ≡ o → (c : C) × IsInCall h t c
+        by th at None is = absurd (both_ways (test no_wait) fails (sym (ap test (facts.idle t th at is)) ∙ passes))
+        by th at (Some b) is = let f = facts.first t th b at is in (f.0, record { thread = th; rest = f.1; begun = b; stands = at; calls = f.2; has_begun = is })
 
     module _ (drained : IsDrained h.journal.flush) (free : at_limit h.journal.flush ≡ false) (idle : h.journal.phase ≡ Idle) (still : (t : ℕ) → (advance M u false h t).host ≡ h) where
       unsent : HasNoPlan h
@@ -68,21 +90,11 @@ module _ {T V C R : Type 0} (M : Model T V C R) (u : Setup) (h : Host V C R) whe
       abbrev test : Wait → Bool
       test = lacks (is_submitted h.journal)
 
-      in_call : (t : ℕ) → test (wait_of h.journal t) ≡ true → (c : C) × IsInCall h t c
-      in_call t lack = let th = slice_get-in_range h.threads t within in by th.0 th.1 th.0.begun refl
-        where
-          within : t < length h.threads
-          within = subst (λ n. t < n) (sym facts.counted) (place_within test no_wait h.journal.flush.waits t refl lack)
-
-          by : (th : Thread C) → slice_get h.threads t ≡ Some th → (o : Option Begun) → th.begun ≡ o → (c : C) × IsInCall h t c
-          by th at None is = absurd (false≢true (sym (ap test (facts.idle t th at is)) ∙ lack))
-          by th at (Some b) is = let f = facts.first t th b at is in (f.0, record { thread = th; rest = f.1; begun = b; stands = at; calls = f.2; has_begun = is })
-
       none_lacks : list_any test h.journal.flush.waits ≡ false
       none_lacks = elim (cases_Bool (list_any test h.journal.flush.waits)) [
         | inl some ↦
             let t = some_at test no_wait h.journal.flush.waits some in
-            let call = in_call t.0 t.1 in
+            let call = in_call test refl t.0 t.1 in
             let parts = lacks_parts (is_submitted h.journal) (wait_of h.journal t.0) t.1 in
             absurd (through_moves t.0 call.0 call.1 parts.1.0 parts.0 parts.1.1 parts.1.2)
         | inr none ↦ none
@@ -158,16 +170,6 @@ module _ {T V C R : Type 0} (M : Model T V C R) (u : Setup) (h : Host V C R) whe
         -- ---- no call is next
 
         module _ (zones : (z : Freed) → In z (M.zones h.volume).waiting → z.transaction ≡ h.journal.running.number) (next : IsNext h t c) where
-          undone : Done M u h t c → ⊥
-          undone (replies reply e) =
-              let now = subst (λ (x : Host V C R). EndsAt x.history (length h.history) t c (Answered reply)) (still t) e in
-              let low = slice_get-length h.history (length h.history) _ now in
-              omega (arith, low)
-          undone (enters call) =
-              let now = subst (λ (x : Host V C R). IsInCall x t c) (still t) call in
-              let one = same_Some now.thread next.thread (sym now.stands ∙ next.stands) in
-              none-some now.begun (sym next.unbegun ∙ (sym (ap (λ (th : Thread C). th.begun) one) ∙ now.has_begun))
-
           abbrev free_zones : ℕ
           free_zones = length (M.zones h.volume).free
 
@@ -178,14 +180,14 @@ module _ {T V C R : Type 0} (M : Model T V C R) (u : Setup) (h : Host V C R) whe
           lacking = causes.Quarantine (M.needs h.volume c - free_zones)
 
           none_next : ⊥
-          none_next = splits M u h t c next facts.going ⊥ undone (λ accepted kind. by accepted kind
+          none_next = splits M u h t c next facts.going ⊥ (undone t c (still t) next) (λ accepted kind. by accepted kind
               (gate_cases (M.hinders h.volume c) (is_closing h.journal.phase) (fits M u h.journal.running) (nat_lt free_zones (M.needs h.volume c)) crowded lacking (ap is_closing idle)))
             where
               some : nat_lt free_zones (M.needs h.volume c) ≡ true → 0 < M.needs h.volume c - free_zones
               some e = let low = ltb-true free_zones (M.needs h.volume c) e in omega (arith, low)
 
               by : M.reply h.volume c ≡ None → is_begun (M.kind c) ≡ false → (hindrance M u h c ≡ None) ⊎ ((hindrance M u h c ≡ Some crowded) ⊎ ((hindrance M u h c ≡ Some lacking) × (nat_lt free_zones (M.needs h.volume c) ≡ true))) → ⊥
-              by accepted kind (inl opens) = undone (acted M u h t c next facts.going accepted kind opens)
+              by accepted kind (inl opens) = undone t c (still t) next (acted M u h t c next facts.going accepted kind opens)
               by accepted kind (inr (inl e)) = wanting_differs unwanted (sym (hinders M u h t c next facts.going accepted kind free crowded e) ∙ still t)
               by accepted kind (inr (inr e)) = wanting_differs unwanted (sym (hinders M u h t c next facts.going accepted kind free lacking e.0 ∙ lacks_zones M u h t c (M.needs h.volume c - free_zones) (some e.1) zones) ∙ still t)
 

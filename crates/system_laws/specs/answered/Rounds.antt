@@ -1,5 +1,5 @@
 -- Sessions on images that were made, on any scheduler and any device, and what rounds bring them to.
-use Rattle.std.specs.Prelude.{◌≡◌, ◌⊎◌, ℕ, ◌≤◌, Bool, List, [], ◌++◌, length, Some, slice_get}
+use Rattle.std.specs.Prelude.{◌≡◌, ℕ, ◌≤◌, Bool, List, [], ◌++◌, Some, slice_get}
 use Rattle.minix_layout.specs.declared.division.Geometry.{Geometry}
 use Rattle.line_grammar.specs.declared.events.event.CoreEvent.{CoreEvent}
 use Rattle.order_model.specs.Machine.{Machine}
@@ -21,12 +21,8 @@ abbrev pub session_host : {K S : Type 0} → Geometry → ℕ → Bool → ℕ �
 session_host g journal wide limit capacity programs k m sched dev events =
     (run_events (opening_on g journal wide) k m (opened_session (opening_on g journal wide) (made_start g journal limit capacity programs) sched dev) events).host
 
--- as many requests were submitted as there may be
-abbrev pub IsFull : {V C R : Type 0} → ℕ → Host V C R → Type 0
-IsFull limit h = length h.journal.flush.requests ≡ limit
-
 -- After so many rounds behind these events, in which each of so many threads and then each other part takes a step, and after any
--- more, each thread has done its whole program; or the session has as many requests as it may have.
-pub record RoundsFinish {V C R : Type 0} (limit : ℕ) (session : List CoreEvent → Host V C R) (events : List CoreEvent) (threads : ℕ) : Type 0 where
+-- more, no thread has a call left.
+pub record RoundsFinish {V C R : Type 0} (session : List CoreEvent → Host V C R) (events : List CoreEvent) (threads : ℕ) : Type 0 where
   pub rounds : ℕ
-  pub ended : (n : ℕ) → rounds ≤ n → HaveEnded (session (events ++ repeated n (round threads))) ⊎ IsFull limit (session (events ++ repeated n (round threads)))
+  pub ended : (n : ℕ) → rounds ≤ n → HaveEnded (session (events ++ repeated n (round threads)))

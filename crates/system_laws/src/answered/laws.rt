@@ -32,9 +32,9 @@ use session_core::calls_end_as_their_script_says;
 use session_core::run::parts::ended_threads_did_their_programs;
 
 /// A law, which only calls laws: no session gets stuck. From wherever a session on an image that was made stands, on any
-/// scheduler and on any device that stays on and of which nothing fails, rounds enough bring each thread to the end of its
-/// program, or the session to as many requests as it may have; and more rounds leave it so. In a round each thread takes a step,
-/// and then each other part. Scheduler and queues hold a request or more.
+/// scheduler and on any device that stays on and of which nothing fails, rounds enough leave no thread a call, and more rounds
+/// leave it so; also where the session has as many requests as it may have, which ends calls by `session full`. In a round each
+/// thread takes a step, and then each other part. Scheduler and queues hold a request or more.
 ///
 /// `room` says that an empty transaction fits any call, where the map of zones has at most twelve blocks, as that of each volume
 /// that is made has (`few_blocks`).
@@ -42,7 +42,7 @@ pub fn sessions_never_get_stuck<S: Scheduler, D: OrderedDev>()
     ensures rounds { (g : Geometry) (journal : ℕ) (wide : Bool) (limit capacity : ℕ) (programs : List (List Call)) (sched : S.State) (dev : D.State) (events : List CoreEvent) →
         IsSound g → LEAST_JOURNAL ≤ journal → journal ≤ MOST_JOURNAL → limit + journal < 4294967296 → HaveLines programs →
         1 ≤ capacity → S.valid sched → 1 ≤ (S.steps.seen sched).capacity → D.valid dev → D.stays_on dev → D.sound dev → IsNew (made_image g journal wide) limit (S.steps.seen sched) (D.seen dev) →
-        RoundsFinish limit (session_host g journal wide limit capacity programs S.steps (machine_of D.OrderedDev) sched dev) events (length programs) }
+        RoundsFinish (session_host g journal wide limit capacity programs S.steps (machine_of D.OrderedDev) sched dev) events (length programs) }
     ensures room { (g : Geometry) (journal : ℕ) (wide : Bool) → LEAST_JOURNAL ≤ journal → g.zmap ≤ 12 → (n : ℕ) →
         fits_in (opening_on g journal wide).writers g.zmap (opening_on g journal wide).quota (fresh n) ≡ true }
     ensures few_blocks { (inodes zones width : ℕ) → zones < 2 ^ 16 → (geometry_made inodes zones width).zmap ≤ 12 }
@@ -52,9 +52,8 @@ pub fn sessions_never_get_stuck<S: Scheduler, D: OrderedDev>()
 }
 
 /// A law, which only calls laws: with rounds enough behind its events, a script that has neither a line `cut` nor a line `fail`
-/// ends with no thread that has a call left, or with as many requests as its line `limit` allows. It is of the scheduler and the
-/// device that the script says. Where it ends so below its limit, each thread did its whole program, and each call ended with
-/// the reply that the tree of calls has for it.
+/// ends with no thread that has a call left. It is of the scheduler and the device that the script says. Where it ends so below
+/// its limit, each thread did its whole program, and each call ended with the reply that the tree of calls has for it.
 pub fn scripts_come_to_their_end()
     ensures rounds { (s : SessionScript) → IsWellFormed s → s.header.cut ≡ None → s.header.fail ≡ None → RoundsEnd s }
     ensures answers { (s : SessionScript) (end : EndState) (r : SessionReport) → HeadlineOn s end r → RanFreely s end → HaveEnded end.host → AreAnswered s end }
