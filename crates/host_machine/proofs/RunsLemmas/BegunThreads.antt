@@ -62,6 +62,26 @@ entry_comes {C = C} {R = R} t es new of_t = record {
   comes = λ i e x. ⊎_elim (λ old. inl old) (λ here. inr (ap (λ (y : Entry C R). y.thread) (sym here.1) ∙ of_t)) (slice_get-push_cases es new i e x);
 }
 
+-- a thread that nothing was done to is in its call as before
+in_call_still : {C R : Type 0} {kind : C → CallKind} {threads threads' : List (Thread C)} {waits waits' : List Wait} {history history' : List (Entry C R)} {sent sent' u : ℕ}
+    → slice_get threads' u ≡ slice_get threads u → slice_get waits' u ≡ slice_get waits u
+    → ((i : ℕ) (e : Entry C R) → slice_get history i ≡ Some e → slice_get history' i ≡ Some e) → ((i : ℕ) (e : Entry C R) → slice_get history' i ≡ Some e → (slice_get history i ≡ Some e) ⊎ (e.thread ≢ u))
+    → sent ≤ sent' → IsInCall kind threads waits history sent u → IsInCall kind threads' waits' history' sent' u
+in_call_still same_thread same_wait stays comes more x = record {
+  call = x.call;
+  rest = x.rest;
+  begun = x.begun;
+  there = same_thread ∙ x.there;
+  kind_is = x.kind_is;
+  place = x.place;
+  began = stays x.place _ x.began;
+  last = λ i e behind at. ⊎_elim (λ was. x.last i e behind was) (λ other. other) (comes i e at);
+  wait = x.wait;
+  waits_so = same_wait ∙ x.waits_so;
+  wait_is = x.wait_is;
+  needs = λ id e. let n = x.needs id e in let low = n.0 in (omega (arith, low, more), n.1);
+}
+
 module _ {C R : Type 0} {kind : C → CallKind} {threads : List (Thread C)} {waits : List Wait} {history : List (Entry C R)} {sent : ℕ} (old : KnowsThreads kind threads waits history sent) where
   pub thread_changes : (t : ℕ) (threads' : List (Thread C)) (waits' : List Wait) (history' : List (Entry C R)) (sent' : ℕ)
       → ChangesAt t threads threads' → ChangesAt t waits waits' → GrowsFor t history history' → sent ≤ sent'
@@ -81,40 +101,13 @@ module _ {C R : Type 0} {kind : C → CallKind} {threads : List (Thread C)} {wai
       }
 
       still_in_call : (u : ℕ) → u ≢ t → IsInCall kind threads waits history sent u → IsInCall kind threads' waits' history' sent' u
-      still_in_call u other x = record {
-        call = x.call;
-        rest = x.rest;
-        begun = x.begun;
-        there = at_threads.others u other ∙ x.there;
-        kind_is = x.kind_is;
-        place = x.place;
-        began = grows.stays x.place _ x.began;
-        last = λ i e behind at. ⊎_elim (λ was. x.last i e behind was) (λ of_t same. other (sym same ∙ of_t)) (grows.comes i e at);
-        wait = x.wait;
-        waits_so = at_waits.others u other ∙ x.waits_so;
-        wait_is = x.wait_is;
-        needs = λ id e. let n = x.needs id e in let low = n.0 in (omega (arith, low, more), n.1);
-      }
+      still_in_call u other x =
+          in_call_still (at_threads.others u other) (at_waits.others u other) grows.stays
+          (λ i e at. ⊎_elim (λ was. inl was) (λ of_t. inr (λ same. other (sym same ∙ of_t))) (grows.comes i e at)) more x
 
   -- more requests are submitted
   pub more_sent : (sent' : ℕ) → sent ≤ sent' → KnowsThreads kind threads waits history sent'
-  more_sent sent' more = record { counted = old.counted; each = λ u. ⊎_elim (λ x. inl x) (λ x. inr (still u x)) (old.each u) }
-    where
-      still : (u : ℕ) → IsInCall kind threads waits history sent u → IsInCall kind threads waits history sent' u
-      still u x = record {
-        call = x.call;
-        rest = x.rest;
-        begun = x.begun;
-        there = x.there;
-        kind_is = x.kind_is;
-        place = x.place;
-        began = x.began;
-        last = x.last;
-        wait = x.wait;
-        waits_so = x.waits_so;
-        wait_is = x.wait_is;
-        needs = λ id e. let n = x.needs id e in let low = n.0 in (omega (arith, low, more), n.1);
-      }
+  more_sent sent' more = record { counted = old.counted; each = λ u. ⊎_elim (λ x. inl x) (λ x. inr (in_call_still refl refl (λ i e at. at) (λ i e at. inl at) more x)) (old.each u) }
 
   -- ---- the commit block of transaction k is request id
 
