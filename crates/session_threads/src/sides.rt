@@ -18,7 +18,7 @@ mod running;
 
 pub use ending::has_ended;
 pub use flags::Flags;
-pub use gate::Gate;
+pub use gate::{Gate, WORKER_STACK};
 pub use host_side::HostSide;
 pub use loops::{
     accept_loop, caller_loop, commit_loop, dispatch_loop, flush_loop, persist_loop, transfer_loop,

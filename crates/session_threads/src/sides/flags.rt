@@ -8,7 +8,7 @@ pub struct Flags {
     submitted: AtomicBool,
     // The flush loop has ended.
     flushed: AtomicBool,
-    // Memory was refused.
+    // Memory was refused, or a thread.
     refused: AtomicBool,
 }
 

@@ -32,9 +32,6 @@ use std::thread;
 use std::thread::{Builder, Threads};
 use thread_sides::{DeviceSide, Effects, IdFlags, OpensDevice, OpensScheduler, SchedSide};
 
-// The stack of a worker's thread, in bytes.
-const STACK: usize = 1 << 20;
-
 // So many callers, counted from 1, and the six other loops.
 fn workers(alloc: Global, callers: u32) -> Result<Vec<u32>, NoMemory> {
     let mut workers = Vec::new(alloc);
@@ -104,7 +101,7 @@ fn run_workers<
         {
             for who in workers {
                 let who = *who;
-                let started = Builder::new().stack_size(STACK).spawn_scoped(
+                let started = Builder::new().stack_size(gate.stack(who)).spawn_scoped(
                     scope,
                     move || work(rt, alloc, gate, flags, seed, host, sched, dev, who),
                 );
@@ -157,7 +154,8 @@ fn joined<
 }
 
 /// Runs the loops of a session over three locks, each in a thread of its own, until the session has ended, and brings the
-/// sides together. Loops that all ended before the session has are started again over the same parts.
+/// sides together. Loops that all ended before the session has are started again over the same parts. A thread that is refused is
+/// want of memory: loops that have begun end then, as they do where one of them is refused memory.
 pub fn run_sides<
     S: Scheduler + OpensScheduler + Drop + Send,
     D: OrderedDev + OpensDevice + Drop + Send,
