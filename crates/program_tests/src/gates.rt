@@ -1,5 +1,5 @@
 //! Gates of the tests.
-use session_threads::sides::Gate;
+use session_threads::sides::{Gate, WORKER_STACK};
 use std::sync::atomic::{AtomicBool, AtomicU32, Ordering};
 use std::thread;
 
@@ -9,6 +9,26 @@ pub struct Open;
 impl Gate for Open {
     fn pass(&self, _who: u32, _turn: u64) -> bool {
         true
+    }
+}
+
+/// Lets every worker pass, and asks for a stack for this one that no machine has, so that its thread is refused.
+#[derive(Drop)]
+pub struct Without {
+    pub who: u32,
+}
+
+impl Gate for Without {
+    fn pass(&self, _who: u32, _turn: u64) -> bool {
+        true
+    }
+
+    fn stack(&self, who: u32) -> usize {
+        if who == self.who {
+            usize::MAX
+        } else {
+            WORKER_STACK
+        }
     }
 }
 

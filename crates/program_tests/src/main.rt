@@ -5,8 +5,8 @@
 //!
 //! And tests of the top call: sources and sinks that fail, generated workloads, attempts of recovery, stores cut at each step, and
 //! the words of a process; and a law on how long an input may be. And tests of sessions in threads below the top call: what is
-//! left of four threads that sync their files, that workers run beside each other, and what two of the sides do at the ends of
-//! their queues.
+//! left of four threads that sync their files, that workers run beside each other, that a run ends of which a thread is refused, and
+//! what two of the sides do at the ends of their queues.
 //!
 //! Stands on `barrierfs_top`, on `session_report::bulk` for the script of a workload, and on `session_threads`; `sides` also on
 //! the scheduler and the device that it drives.
@@ -20,6 +20,8 @@ pub mod limits;
 mod most;
 #[cfg(test)]
 mod recoveries;
+#[cfg(test)]
+mod refusals;
 mod rows;
 #[cfg(test)]
 mod sessions;

@@ -4,7 +4,7 @@ use blk_base::{MemSink, MemSource, Sink, Source};
 use std::alloc::Global;
 use std::process::Abort;
 
-/// These words.
+/// The words of a command line.
 pub fn words_of(rt: &impl Abort, alloc: Global, list: &[&str]) -> Words {
     let mut words = Words::make(alloc);
     for word in list {
