@@ -18,7 +18,7 @@ pub fn raw_images_show_the_printed_tree()
         shown (whole_blocks bytes) ≡ Ok replay.printed.tree }
 {}
 
-/// A law, which does nothing when it is called: by what an input is, a command ends in one way, want of memory aside.
+/// A law, which does nothing when it is called: for a given input a command ends in exactly one way, or runs out of memory.
 pub fn inputs_end_in_one_way()
     ensures { (c : InputTask) (input : List ℕ) (a b : Option TopFault) → Expects c input a → Expects c input b → a ≡ b }
 {}

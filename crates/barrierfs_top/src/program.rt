@@ -48,8 +48,8 @@ pub struct Ended {
     pub reported: bool,
 }
 
-// How the program ends, where the top call ended so. The report is let go by a call: a drop that is written out in place is dear to
-// prove.
+// How the program ends, where the top call ended so. The report is dropped by a call: a drop that is written out in place is expensive
+// to prove.
 fn let_go(outcome: Outcome) -> Ended
     ensures status { result.status ≡ outcome.status }
     ensures fault { result.fault ≡ outcome.fault }

@@ -30,7 +30,7 @@ impl Model for Image {
 }
 
 impl Image {
-    /// An image of so many blocks of zeros.
+    /// An image of `blocks` blocks of zeros.
     pub fn zeroed(alloc: Global, blocks: u32) -> Result<Image, NoMemory>
         ensures { IfOk result (λ i. i ≡ zeros blocks) }
     {

@@ -108,7 +108,7 @@ impl Source for PlainSource<'_> {
     }
 }
 
-/// A source over a reader of std, and what is left is what the reader tells of. A terminal or a file tells nothing.
+/// A source over a reader of std. What is left to read is known only of a reader in memory: a terminal or a file tells nothing.
 #[derive(Drop)]
 pub struct StdSource<R> {
     reader: R,

@@ -1,4 +1,4 @@
-//! What a host answers: to a step of a caller, of how a caller stands, and of the calls that began and ended.
+//! The host's replies: what a step of a caller came to, how a caller stands, and the history of its calls.
 //!
 //! `step` has the answers to a step, with the causes for which a call waits, `standing` how a caller stands when it is
 //! asked, and `entry` what is noted of calls. What each of them means is said by the host.

@@ -93,7 +93,7 @@ pub fn scan<D: OrderedDev>(
     ensures sound { D.sound (D.state dev.old) → D.sound (D.state dev.new) × ((D.seen (D.state dev.new)).faults ≡ (D.seen (D.state dev.old)).faults) }
 {
     if s.start == 0 {
-        // By this call the device tells that its laws hold of its state.
+        // For the proof alone: the answer brings the laws of the device.
         let _ = dev.blocks();
         return Ok(Log::of(Vec::new(alloc)));
     }

@@ -50,7 +50,7 @@ pub(crate) fn write_back<D: OrderedDev>(
     ensures between { AreBetween (D.seen (D.state dev.old)).surface (recovered base (D.seen (D.state dev.old)).surface) (D.seen (D.state dev.new)).surface }
     ensures sound { D.sound (D.state dev.old) → D.sound (D.state dev.new) × ((D.seen (D.state dev.new)).faults ≡ (D.seen (D.state dev.old)).faults) }
 {
-    // By this call the device tells that its laws hold of its state.
+    // For the proof alone: the answer brings the laws of the device.
     let _ = dev.blocks();
     let mut plan = Plan::make(homes, base, superblock);
     let end = follow(dev, &mut plan, steer);

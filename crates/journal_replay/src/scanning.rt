@@ -298,7 +298,7 @@ pub(crate) fn read_log<D: OrderedDev>(
     ensures sound { D.sound (D.state dev.old) → D.sound (D.state dev.new) × ((D.seen (D.state dev.new)).faults ≡ (D.seen (D.state dev.old)).faults) }
     ensures fault { IsErrOf result ScanFault.ReadFault → Rose (D.seen (D.state dev.old)).faults (D.seen (D.state dev.new)).faults }
 {
-    // By this call the device tells that its laws hold of its state.
+    // For the proof alone: the answer brings the laws of the device.
     let _ = dev.blocks();
     let mut log = Scan::start(alloc, s.sequence);
     scan_ring(alloc, dev, &mut log, base, s)?;

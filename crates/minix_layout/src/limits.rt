@@ -6,7 +6,7 @@ pub const LARGEST_SIZE: u32 = 268_966_912;
 /// The most links of a file or directory. An inode's field would hold five more.
 pub const MOST_LINKS: u8 = 250;
 
-/// The most inodes of a volume, and the most of its blocks.
+/// The largest number of inodes of a volume, and of its blocks.
 pub const MOST_NUMBERED: u64 = 65_535;
 
 /// The least blocks of the journal behind a volume.

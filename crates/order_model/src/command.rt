@@ -46,7 +46,7 @@ impl Command {
         command
     }
 
-    /// Becomes the command that carries one request alone, where it stands: 1 KB of its 16 is written.
+    /// Overwrites this command with the one that carries one request alone. Only 1 KB of its 16 is written.
     pub fn carry(&mut self, r: Request, flagged: bool)
         ensures { self.new ≡ command_of_request r flagged }
     {

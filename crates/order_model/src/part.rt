@@ -16,7 +16,7 @@ pub struct Part {
 }
 
 impl Part {
-    /// The same again. It takes no memory.
+    /// A copy. It takes no memory.
     pub fn copy(&self) -> Part
         ensures { result ≡ self.now }
     {

@@ -24,7 +24,7 @@ pub struct Request {
 }
 
 impl Kind {
-    /// The same again. It takes no memory.
+    /// A copy. It takes no memory.
     pub fn copy(&self) -> Kind
         ensures { result ≡ self.now }
     {
@@ -39,7 +39,7 @@ impl Kind {
 }
 
 impl Request {
-    /// The same again. It takes no memory.
+    /// A copy. It takes no memory.
     pub fn copy(&self) -> Request
         ensures { result ≡ self.now }
     {

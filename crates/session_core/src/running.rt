@@ -140,7 +140,7 @@ fn run<D: OrderedDev + Drop>(
     ensures calls { IfOk result (λ r. r.host.programs ≡ script.now.programs) }
 {
     let limit = script.header.limit;
-    // A host is let go by a call: a drop that is written out in place is dear to prove.
+    // The host is dropped by a call: a drop that is written out in place is expensive to prove.
     if script.header.elevator {
         let Ok(sched) = Elevator::make(alloc, limit) else {
             drop(host);

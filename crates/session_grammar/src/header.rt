@@ -1,4 +1,4 @@
-//! The header lines: what each may say, and what one that is missing stands for.
+//! Header lines: their limits and defaults.
 ghost use Rattle.std.specs.Prelude.{◌≡◌, true, map, is_some};
 ghost use Rattle.session_grammar.specs.Grammar.{none_told, told_number, number_fits, with_number, number_taken, header_line, header_taken, header_of};
 

@@ -1,7 +1,7 @@
 //! The limits of a volume script, and what a header line that is missing stands for. Those that other crates have
 //! too are theirs.
 
-/// The journal's number of blocks is below this where it is spelled.
+/// A number of journal blocks is spelled as a number below this.
 pub const JOURNALS: u64 = 4_294_967_296;
 
 /// The most threads.

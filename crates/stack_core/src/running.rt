@@ -203,7 +203,7 @@ pub fn run_on<D: OrderedDev + Drop>(
     ensures order { let end = end_on (machine_of D.OrderedDev) script.now (D.state dev) in
         IfOk result (λ r. KeepsOrder (zeros (blocks_of script.now)) r.submitted r.cut.image r.cut.origins (r.cut.trace.sent.items ++ end.dev.waiting)) }
 {
-    // By this call the device tells that its laws hold of its state.
+    // For the proof alone: the answer brings the laws of the device.
     let _ = dev.blocks();
     let limit = scheduled_count(script);
     if script.header.elevator {

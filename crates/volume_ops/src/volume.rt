@@ -66,7 +66,7 @@ impl Volume {
         ensures reads { OnlyReads (D.seen (D.state dev.old)) (D.seen (D.state dev.new)) }
         ensures no_fault { D.sound (D.state dev.old) → D.sound (D.state dev.new) × ((D.seen (D.state dev.new)).faults ≡ (D.seen (D.state dev.old)).faults) }
     {
-        // By this call the device tells that its laws hold of its state.
+        // For the proof alone: the answer brings the laws of the device.
         let _ = dev.blocks();
         let blocks = read_blocks(alloc, dev, g.zones)?;
         let disk = Disk::new(blocks);

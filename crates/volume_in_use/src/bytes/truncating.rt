@@ -1,4 +1,4 @@
-//! A file gets a size, and all of it that lies behind goes.
+//! Truncates a file: sets its size and frees the blocks past it.
 ghost use Rattle.std.specs.Prelude.{◌≡◌, ◌+◌, ◌*◌, IfOk, OnErr, length};
 ghost use Rattle.volume_steps.specs.Calls.{truncate_at};
 ghost use Rattle.volume_in_use.specs.bytes.MayWrite.{IsFileOf, MayTruncate};

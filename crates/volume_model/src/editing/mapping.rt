@@ -1,4 +1,4 @@
-//! A block of a file or of a directory is mapped. No call takes memory.
+//! Maps a block of a file or of a directory. No call takes memory.
 ghost use Rattle.std.specs.Prelude.{◌≡◌, ◌<◌};
 ghost use Rattle.volume_model.specs.MapBlock.{map_block};
 ghost use Rattle.volume_model.specs.editing.code.Mapping.{slot_step, entry_step};
