@@ -3,6 +3,7 @@ use Rattle.std.proofs.Common.{◌≡◌, ℕ, ◌++◌, ◌==◌, true, List, []
 use Rattle.std.proofs.lemmas.Bool.{and_parts, eqb-true}
 use Rattle.std.proofs.lemmas.Option.{none-some, same_Some}
 use Rattle.order_model.specs.Carrying.{AreAtIds}
+use Rattle.order_model.specs.OrderClosed.{IsPut, IsKept}
 use Rattle.order_model.specs.Device.{TellsCut, TellsFailure, completed, origin_ids}
 use Rattle.order_model.specs.Machine.{Machine}
 use Rattle.order_model.specs.Steps.{IsTraceOf}
@@ -21,17 +22,23 @@ use Rattle.host_core.specs.Done.{is_done}
 use Rattle.host_core.specs.Now.{HostNow}
 use Rattle.host_machine.specs.State.{Host, Thread}
 use Rattle.host_machine.specs.runs.Runs.{Event}
-use Rattle.call_sessions.specs.Sessions.{host_behind}
+use Rattle.host_machine.proofs.RunsLemmas.StartHost.{none_begun}
+use Rattle.minix_host.specs.Calls.{kind_of}
+use Rattle.call_sessions.specs.Sessions.{KeepsCalls, call_over, host_behind, opened_with}
+use Rattle.call_sessions.specs.power_cuts.calls.CallImages.{submitted_by}
+use Rattle.call_sessions.proofs.PromisesLemmas.Growing.{run_grows}
 use Rattle.call_sessions.specs.promises.Legal.{events_in, program_of}
 use Rattle.session_core.specs.run.parts.Whole.{IsWhole}
 use Rattle.session_grammar.specs.declared.session_script.SessionScript.{SessionScript}
-use Rattle.session_core.specs.Core.{IsDeviceOf, IsNewFor, opening_of, start_of}
+use Rattle.session_core.specs.Core.{EndState, IsDeviceOf, IsNewFor, geometry_of, opening_of, start_of}
+use Rattle.session_core.specs.Headline.{kept_in}
 use Rattle.thread_sides.specs.declared.events.Effects.{Effects}
-use Rattle.session_threads.specs.sides.Ended.{HasEnded}
+use Rattle.session_threads.specs.sides.Ended.{HasEnded, IsAllDone}
 use Rattle.session_threads.specs.sides.HostReplay.{with_completions}
 use Rattle.session_threads.specs.sides.Sides.{AreSides}
+use Rattle.session_threads.proofs.AllFound.{all_found, unstopped_is_done, free_is_unstopped}
 use Rattle.session_threads.proofs.Replays.{are_replayed}
-use Rattle.session_threads.specs.Ran.{LeftBy}
+use Rattle.session_threads.specs.Ran.{LeftBy, IsUnstopped, medium_in}
 
 -- ---- threads without a call left
 
@@ -91,15 +98,44 @@ module _ {K S : Type 0} (k : SchedSteps K) (m : Machine S) (s : SessionScript) (
         failure = failure;
       }
 
+  abbrev end : EndState
+  end = record { host = host.host; sched = k.seen sched; dev = m.seen dev }
+
+  limit_is : host.host.journal.flush.limit ≡ s.header.limit
+  limit_is =
+      let o = opening_of s in
+      let b = start_of s in
+      subst (λ (h : Host VolumeNow Call Reply). h.journal.flush.limit ≡ s.header.limit) (sym host_is)
+      (run_grows (call_over o) (opened_with o b.volume b.ring b.limit b.programs) (none_begun kind_of b.programs) events).limit
+
+  -- all puts of a quiet device are kept, and so all commit blocks
+  found_all : KeepsCalls (opening_of s) host.host → (IsAllDone host.host (k.seen sched) (m.seen dev) → (i : ℕ) → IsPut requests i → IsKept requests (origin_ids (m.seen dev).took (m.seen dev).origins) i)
+      → IsDeviceOf s (m.seen dev) → HasEnded s.header.cut host.host (k.seen sched) (m.seen dev) → IsUnstopped s end → kept_in s end (medium_in end) ≡ length host.host.cuts
+  found_all keeps quiet is_device ended free =
+      let done = unstopped_is_done s end is_device limit_is ended free in
+      all_found (submitted_by (geometry_of s) s.journal s.wide keeps.closed host.host) (medium_in end) keeps.rules.order.fits (quiet done) ∙ done.closed
+
   pub left_by : (did : SchedRecord) (cut : CutDisk) → IsSchedRecord (k.seen sched) did → cut.image ≡ (m.seen dev).surface → cut.origins ≡ origin_ids (m.seen dev).took (m.seen dev).origins → IsTraceOf (m.seen dev) cut.trace
       → IsNewFor s (m.seen dev_first) → TellsCut (m.seen dev) → TellsFailure (m.seen dev)
       → KeepsOrder (m.seen dev).base requests (m.seen dev).surface (origin_ids (m.seen dev).took (m.seen dev).origins) (completed (m.seen dev))
       → HasEnded s.header.cut host.host (k.seen sched) (m.seen dev)
+      → KeepsCalls (opening_of s) host.host
+      → (IsAllDone host.host (k.seen sched) (m.seen dev) → (i : ℕ) → IsPut requests i → IsKept requests (origin_ids (m.seen dev).took (m.seen dev).origins) i)
       → ((t : ℕ) → ((th : Thread Call) → slice_get behind.threads t ≡ Some th → th.calls ≡ []) → IsWhole (of_thread t (events_in behind.history)) (program_of s.programs t))
       → LeftBy k m s sched_first dev_first (record { end = record { host = host; sched = did; cut = cut }; effects = effects })
-  left_by did cut did_is image origins trace new power failure order ended law = record {
-    end = record { host = host.host; sched = k.seen sched; dev = m.seen dev };
-    ran = record { sched = sched; dev = dev; sched_seen = refl; dev_seen = refl; replayed = are_replayed (opening_of s) (start_of s) k sched_first m dev_first effects host sched dev is; ended = ended; whole = whole ended law };
+  left_by did cut did_is image origins trace new power failure order ended keeps quiet law = record {
+    end = end;
+    ran = record {
+      sched = sched;
+      dev = dev;
+      sched_seen = refl;
+      dev_seen = refl;
+      replayed = are_replayed (opening_of s) (start_of s) k sched_first m dev_first effects host sched dev is;
+      ended = ended;
+      whole = whole ended law;
+      all_found = λ free. found_all keeps quiet (device new power failure) ended free;
+      unstopped = free_is_unstopped s end (device new power failure);
+    };
     is = record {
       left = record { host = refl; sched = did_is; image = image; origins = origins; trace = trace };
       calls = is.host_is.replay.calls;

@@ -1,3 +1,5 @@
+pub mod AllFound
+pub mod FoundInReports
 pub mod Replays
 pub mod Ends
 pub mod Reports

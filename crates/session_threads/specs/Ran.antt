@@ -1,17 +1,19 @@
 -- A session of a script that ran in threads, and its report.
-use Rattle.std.specs.Prelude.{◌≡◌, ℕ, Bool, true, false, Option, Some, None, unwrap_or, replicate}
+use Rattle.std.specs.Prelude.{◌≡◌, ◌<◌, ℕ, Bool, true, false, length, Option, Some, None, unwrap_or, replicate}
+use Rattle.order_model.specs.Device.{origin_ids}
 use Rattle.order_model.specs.Machine.{Machine}
 use Rattle.schedulers.specs.declared.reassign.scheduler.TheConstants.{CAPACITY}
 use Rattle.schedulers.specs.reassign.Scheduler.{SchedSteps}
 use Rattle.schedulers.specs.reassign.Sched as plain
 use Rattle.schedulers.specs.elevator.Elevator as elevator
-use Rattle.schedulers.specs.dispatch.Opened.{ArePassesOf, AreNew}
+use Rattle.schedulers.specs.dispatch.Opened.{HaveCapacity, ArePassesOf, AreNew}
 use Rattle.stack_core.specs.Core.{epoch_machine, flash_machine}
 use Rattle.crash_laws.specs.LegalHistory.{of_thread}
 use Rattle.call_sessions.specs.promises.Legal.{events_in, program_of}
 use Rattle.session_grammar.specs.declared.session_script.SessionScript.{SessionScript}
+use Rattle.session_core.specs.CallEnds.{RanFreely}
 use Rattle.session_core.specs.Core.{EndState, device_for, flash_for, opening_of, start_of}
-use Rattle.session_core.specs.Headline.{HeadlineOn}
+use Rattle.session_core.specs.Headline.{HeadlineOn, Medium, kept_in}
 use Rattle.session_core.specs.Report.{HasAttemptsAs, IsReportOf}
 use Rattle.session_core.specs.code.Ends.{IsEndOfScript}
 use Rattle.session_core.specs.run.parts.Whole.{IsWhole}
@@ -27,12 +29,25 @@ use Rattle.session_threads.specs.declared.running.SharedRoom.{SharedRoom}
 abbrev pub part_setup : SessionScript → PartSetup
 part_setup s = record { limit = s.header.limit; depth = s.header.depth; segments = unwrap_or s.header.flash 0; fail_at = s.header.fail; cut_at = s.header.cut }
 
--- new queues with their passes, and for each of so many ids a flag that is down
-pub record HasRoom (limit : ℕ) (room : SharedRoom) : Type 0 where
+-- new queues with their passes, each for so many items, and for each of so many ids a flag that is down
+pub record HasRoom (capacity limit : ℕ) (room : SharedRoom) : Type 0 where
+  pub capacity_is : HaveCapacity capacity room.queues
   pub passes : ArePassesOf room.queues room.passes
   pub fresh : AreNew room.passes
   pub sched_ids : room.sched_ids ≡ replicate limit false
   pub device_ids : room.device_ids ≡ replicate limit false
+
+-- ---- how it ran
+
+-- what the session left on its device
+abbrev pub medium_in : EndState → Medium
+medium_in end = record { image = end.dev.surface; origins = origin_ids end.dev.took end.dev.origins }
+
+-- Nothing stopped a session that ended so: the power of its device is on, no transfer failed, and it may submit more.
+pub record IsUnstopped (s : SessionScript) (end : EndState) : Type 0 where
+  pub power : end.dev.off ≡ false
+  pub failure : end.dev.failed ≡ false
+  pub limit : length end.host.journal.flush.requests < s.header.limit
 
 -- A session of the script ran in threads, from this scheduler and this device on, and ended in this state: host, scheduler and device are
 -- what these events make of them; it has ended; and the entries of each thread are its whole program, with an end for every call. (That
@@ -47,6 +62,10 @@ pub record RanInThreads {K S : Type 0} (k : SchedSteps K) (m : Machine S) (s : S
   pub ended : HasEnded s.header.cut end.host end.sched end.dev
   -- each thread did its whole program
   pub whole : (t : ℕ) → IsWhole (of_thread t (events_in end.host.history)) (program_of s.programs t)
+  -- where nothing stopped it, the medium has the commit block of every transaction that was closed
+  pub all_found : IsUnstopped s end → kept_in s end (medium_in end) ≡ length end.host.cuts
+  -- nothing stops it where the script has neither a line `cut` nor a line `fail`, and it may submit more
+  pub unstopped : RanFreely s end → IsUnstopped s end
 
 -- on the elevator, or else on the plain scheduler
 abbrev pub RanWith : {S : Type 0} → Machine S → SessionScript → S → Bool → Effects → EndState → Type 0

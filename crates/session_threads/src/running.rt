@@ -3,7 +3,7 @@ ghost use Rattle.std.specs.Prelude.{◌≡◌, ◌+◌, ◌≤◌, [], Some, Non
 ghost use Rattle.order_model.specs.Device.{IsUntouched};
 ghost use Rattle.order_model.specs.Machine.{machine_of};
 ghost use Rattle.schedulers.specs.reassign.Scheduler.{IsNewScheduler};
-ghost use Rattle.schedulers.specs.dispatch.Opened.{ArePassesOf, AreNew, AreNamed};
+ghost use Rattle.schedulers.specs.dispatch.Opened.{ArePassesOf, AreNew, AreNamed, HaveCapacity};
 ghost use Rattle.mount_make.specs.Made.{made_image};
 ghost use Rattle.host_machine.specs.runs.laws.Written.{AreWritten};
 ghost use Rattle.minix_host.specs.Runs.{IsOpenedVolume, HasEmptyJournal};
@@ -19,7 +19,7 @@ use crate::report::{ThreadsEnd, ThreadsReport};
 use crate::sides::{Gate, JoinedParts, SessionNames, run_sides};
 use blk_base::NoMemory;
 use call_sessions::power_cuts::calls::attempts_on_model_devices;
-use order_model::OrderedDev;
+use order_model::{OrderedDev, quiet_devices_keep_all};
 use schedulers::dispatch::{Passes, Queues, make_queues};
 use schedulers::elevator::Elevator;
 use schedulers::epochs::Sched;
@@ -29,7 +29,7 @@ use session_core::run::parts::{
     ended_threads_did_their_programs, hosts_number_their_requests, joined_parts_keep_the_order,
     parts_are_lawful,
 };
-use session_core::run::{Host, SessionEnd};
+use session_core::run::{Host, SessionEnd, hosts_of_code_stay_in_session};
 use session_core::{check_parts, flash_device, model_device, open_script, recover_session};
 use session_grammar::SessionScript;
 use stack_core::{EpochMaker, FlogMaker};
@@ -54,7 +54,7 @@ fn make_room<H: Wait + Sync>(
     script: &SessionScript,
 ) -> Result<SharedRoom, NoMemory>
     requires { IsWellFormed script.now }
-    ensures { IfOk result (HasRoom script.now.header.limit) }
+    ensures { IfOk result (HasRoom script.now.header.queue script.now.header.limit) }
 {
     let limit = script.header.limit as usize;
     let (queues, passes) = make_queues(rt, alloc, script.header.queue)?;
@@ -78,10 +78,12 @@ fn end_parts<S: Scheduler + OpensScheduler, D: OrderedDev + OpensDevice>(
     requires device { IsNewFor script.now (D.seen (D.state (D.opened_over (opening_of script.now).image (part_setup script.now)))) }
     ensures { LeftBy S.steps (machine_of D.OrderedDev) script.now (S.state (S.opened script.now.header.limit)) (D.state (D.opened_over (opening_of script.now).image (part_setup script.now))) result }
 {
-    // These calls tell what holds of parts that fit, and of threads that have ended.
+    // These calls tell what holds of parts that fit, of threads that have ended, and of devices that are quiet.
     parts_are_lawful::<S, D>();
     hosts_number_their_requests();
+    hosts_of_code_stay_in_session();
     joined_parts_keep_the_order();
+    quiet_devices_keep_all();
     ended_threads_did_their_programs();
     let _ = parts.sched.can_accept();
     let _ = parts.dev.blocks();
@@ -122,6 +124,7 @@ fn run_named<
     device_ids: IdFlags,
 ) -> Result<JoinedParts<S, D>, NoMemory>
     requires script { IsWellFormed script.now }
+    requires capacity { HaveCapacity script.now.header.queue queues.now }
     requires passes { ArePassesOf queues.now passes }
     requires fresh { AreNew passes }
     requires names { AreNamed N.submission N.dispatch N.completion passes }

@@ -3,10 +3,9 @@ use Rattle.std.specs.Prelude.{◌≡◌, ◌⊎◌, ℕ, Bool, true, false, [], 
 use Rattle.std.specs.List.{list_any}
 use Rattle.order_model.specs.declared.completion.Completion.{Completion}
 use Rattle.order_model.specs.declared.completion.Completion.TheVariants as completions
-use Rattle.order_model.specs.declared.note.Note.{Note}
-use Rattle.order_model.specs.declared.note.Note.TheVariants as notes
 use Rattle.order_model.specs.Carrying.{SchedSeen}
 use Rattle.order_model.specs.Device.{Seen, IsQuiet}
+pub use Rattle.crash_laws.specs.Found.{is_commit}
 use Rattle.host_core.specs.Done.{is_done}
 use Rattle.host_machine.specs.State.{Host}
 
@@ -15,11 +14,6 @@ is_failed (completions.Failed id) = true
 is_failed (completions.Moved id) = false
 is_failed (completions.Flushed id) = false
 is_failed completions.Cut = false
-
--- the note of a commit block
-abbrev pub is_commit : Note → Bool
-is_commit (notes.Commit tx) = true
-is_commit other = false
 
 -- All that was submitted was accepted, sent out, taken and is on the medium, and there are as many commit blocks as closed
 -- transactions.

@@ -24,4 +24,6 @@ returns g c =
     let order = c.joined_parts_keep_the_order.ensures.order _ _ (k.steps.seen sched) (t.seen dev) ids carries lawful is.fit in
     left_by k.steps (machine_of t) s _ _ c.args.parts.effects c.args.parts.host sched dev is c.into_trace.result c.cut.result c.into_trace.ensures c.cut.ensures.image c.cut.ensures.origins c.cut.ensures.trace
     c.requires.device (l.power_cut dev valid).0 (l.failure dev valid) order c.requires.ended
+    (c.hosts_of_code_stay_in_session.ensures.kept o b.volume b.ring b.limit b.programs steps c.args.parts.host h.written h.opened h.journal h.bytes h.replay)
+    (λ done. c.quiet_devices_keep_all.ensures _ (k.steps.seen sched) (t.seen dev) ids carries lawful.surface (record { accepted = is.fit.accepted; took = is.fit.received }) done.accepted done.none_waits done.taken done.quiet)
     (λ t none. c.ended_threads_did_their_programs.ensures o b.volume b.ring b.limit b.programs steps t none)
