@@ -1,21 +1,10 @@
 #!/usr/bin/env python3
-"""Cuts the power of one small session at each of its first thousand device steps, one run after the other, and prints the wall time of all runs in seconds and the peak memory in MB.
-
-Use: cuts.py PROGRAM
-"""
-import resource
-import subprocess
+"""The command `bench/cuts.py`, which python/barrierfs_tools/cli/cuts.py has."""
+import pathlib
 import sys
-import time
 
-from scripts import synced
+sys.dont_write_bytecode = True
+sys.path.insert(0, str(pathlib.Path(__file__).resolve().parents[1] / "python"))
+from barrierfs_tools.cli.cuts import main  # noqa: E402
 
-CUTS = 1000
-
-scripts = [synced(100, cut).encode() for cut in range(CUTS)]
-start = time.monotonic()
-for script in scripts:
-    subprocess.run([sys.argv[1], "replay"], input=script, stdout=subprocess.DEVNULL, check=True)
-seconds = time.monotonic() - start
-peak = resource.getrusage(resource.RUSAGE_CHILDREN).ru_maxrss / 1024
-print("%.3f %.0f" % (seconds, peak))
+main()

@@ -1,20 +1,10 @@
 #!/usr/bin/env python3
-"""Runs a program with its words on an input, and prints its wall time in seconds and its peak memory in MB.
-
-Use: measure.py PROGRAM INPUT WORD ..
-"""
-import os
-import resource
-import subprocess
+"""The command `bench/measure.py`, which python/barrierfs_tools/cli/measure.py has."""
+import pathlib
 import sys
-import time
 
-program, path, *words = sys.argv[1:]
-with open(path, "rb") as source:
-    start = time.monotonic()
-    done = subprocess.run([program, *words], stdin=source, stdout=subprocess.DEVNULL)
-    seconds = time.monotonic() - start
-if done.returncode != 0:
-    sys.exit("%s ended with status %d" % (os.path.basename(path), done.returncode))
-peak = resource.getrusage(resource.RUSAGE_CHILDREN).ru_maxrss / 1024
-print("%.3f %.0f" % (seconds, peak))
+sys.dont_write_bytecode = True
+sys.path.insert(0, str(pathlib.Path(__file__).resolve().parents[1] / "python"))
+from barrierfs_tools.cli.measure import main  # noqa: E402
+
+main()

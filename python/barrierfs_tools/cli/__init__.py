@@ -1,0 +1,1 @@
+"""The commands: one module for each tool, with its words and what it prints."""

@@ -1,0 +1,1 @@
+"""What each event of a script did, and why it did nothing."""

@@ -1,0 +1,5 @@
+"""Why a tool cannot go on."""
+
+
+class Failed(Exception):
+    """A tool cannot go on, for this reason."""

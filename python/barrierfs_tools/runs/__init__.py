@@ -1,0 +1,1 @@
+"""The program as a child: built, run, timed, and ended."""

@@ -1,0 +1,1 @@
+"""Scripts and images: read, written, drawn at random, and changed in some places."""
