@@ -49,7 +49,7 @@ def test_sizes() -> None:
         rf"there are at most {grammar.MOST_REQUESTS:,}\.": True,
         rf"N from 1 to {grammar.TIMES:,}, and is then done N times": True,
         rf"a script has at most {grammar.MOST_EVENTS:,} events": True,
-        rf"P is below {grammar.PLACE + 1 - 1:,}": True,
+        rf"P is below {grammar.PLACE + 1:,}": True,
         rf"the calls of thread T follow, at most {grammar.MOST_CALLS:,}": True,
         rf"at most {grammar.MOST_THREADS} \|": True,
         rf"at most {grammar.MOST_ATTEMPTS} lines": True,

@@ -121,7 +121,7 @@ twin("host", "sync-by-index", "sync sends the first blocks of all files, then th
 twin("host", "completion-first", "the flush actor takes a completion before it submits a flush that is due", "host",
      "        if self.is_due():\n", "        if not self.completions and self.is_due():\n")
 twin("host", "flush-each", "each sync call has a flush of its own, also where one after its request was submitted", "host",
-     "any(not any(flush > need for flush in self.flushes) for need in moved", "any(self.flushed < need for need in moved")
+     "not any(flush > need for flush in self.flushes) for need in moved if", "self.flushed < need for need in moved if")
 twin("host", "completion-taken-twice", "an answer that sends the kept completion takes the next one too", "host",
      "            self.kept_completion = None\n            self.changes += 1\n", "            self.kept_completion = None\n            self.changes += 1\n            if was_kept:\n                self.answer()\n",
      row="examples/kept-completion.script")
