@@ -21,7 +21,9 @@ def test_rows(path: pathlib.Path) -> None:
 
 def test_a_wrong_row_is_seen() -> None:
     """A row that wants another thing is told."""
-    right = Row("replay", "device 1\nput 0 5a ordered\nevents\nreceive\ntransfer 0\npersist 0\n", "0", "steps 2\nblock 0 5a 0\n")
+    right = Row(
+        "replay", "device 1\nput 0 5a ordered\nevents\nreceive\ntransfer 0\npersist 0\n", "0", "steps 2\nblock 0 5a 0\n"
+    )
     assert Player().play(right) is None
     assert Player().play(right._replace(output="steps 3\nblock 0 5a 0\n")) == right.output
     assert Player().play(right._replace(end="3 script line 1: word", output="")) == right.output

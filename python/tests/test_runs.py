@@ -97,6 +97,8 @@ def test_interrupted(words: list[str], number: signal.Signals, tmp_path: pathlib
 
 def test_help_goes_into_a_closed_pipe(tool: Run) -> None:
     """Who reads no more ends a tool quietly."""
-    done = subprocess.run(f"{ROOT}/examples/survival --script barriers | head -1", shell=True, capture_output=True, check=False)
+    done = subprocess.run(
+        f"{ROOT}/examples/survival --script barriers | head -1", shell=True, capture_output=True, check=False
+    )
     assert done.stdout.startswith(b"volume") and not done.stderr
     assert tool("examples/survival", "--script", "nothing").returncode == 2

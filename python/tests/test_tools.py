@@ -74,7 +74,10 @@ SAID = {
         (10, "fbarrier /f: submits request 0 (block 6, page 0 of /f), order-preserving"),
         (13, "submits request 6 (block 69, journal body of block 5), barrier"),
         (13, "submits request 7 (block 70, commit block of transaction 1), barrier"),
-        (19, "request 6 (block 69, journal body of block 5) leaves as SIMPLE, without the barrier flag that it brought"),
+        (
+            19,
+            "request 6 (block 69, journal body of block 5) leaves as SIMPLE, without the barrier flag that it brought",
+        ),
         (25, "request 0 (block 6, page 0 of /f) leaves as ORDERED with the barrier flag that request 6 brought"),
     ],
     "write-ahead": [
@@ -152,7 +155,14 @@ def test_random(tool: Run, planted: Planted) -> None:
     """Random inputs agree; a program that tells one step more is found out, and one that ends by another status."""
     done = tool("examples/random", 4, "--kinds", "blocks,limit,store", "--seconds", 30, "--jobs", 2)
     assert done.returncode == 0 and "4 inputs of each kind are as they should be" in done.stdout
-    done = tool("examples/random", 4, "--kinds", "blocks", "--program", planted('printed = printed.replace(b"steps ", b"steps 1")'))
+    done = tool(
+        "examples/random",
+        4,
+        "--kinds",
+        "blocks",
+        "--program",
+        planted('printed = printed.replace(b"steps ", b"steps 1")'),
+    )
     assert done.returncode == 1 and "and not" in done.stdout
     done = tool("examples/random", 4, "--kinds", "limit", "--first", 0, "--program", planted("done.returncode = 5"))
     assert done.returncode == 1 and "its status is 5" in done.stdout

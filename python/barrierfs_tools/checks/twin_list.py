@@ -296,3 +296,201 @@ twin("limits", "round-of-seven", "a round counts as seven events and its calls",
 twin("limits", "requests-less", "a script has at most 9,999 requests", "grammar", "MOST_REQUESTS = 10_000", "MOST_REQUESTS = 9_999")
 twin("limits", "calls-more", "a thread has up to 10,001 calls", "grammar", "MOST_CALLS = 10_000", "MOST_CALLS = 10_001")
 twin("limits", "length-less", "one call writes or reads at most 65,535 bytes", "grammar", "LENGTH = (1, 65_536)", "LENGTH = (1, 65_535)")
+
+# Images that are read
+
+twin("images", "table-overlap", "the first zone of data may lie in the tables", "images",
+     ' or self.first < end or short', ' or short')
+twin("images", "maps-no-spare-bit", "a map may have as many bits as there are inodes or zones, and none more", "images",
+     'imap * MAP_BITS < self.inodes + 1 or zmap * MAP_BITS < self.zones - self.first + 1', 'imap * MAP_BITS < self.inodes or zmap * MAP_BITS < self.zones - self.first')
+twin("images", "zmap-all-blocks", "the map of the zones has a bit for each block of the volume", "images",
+     'zmap * MAP_BITS < self.zones - self.first + 1', 'zmap * MAP_BITS < self.zones + 1')
+twin("images", "first-must-be-tight", "the first zone of data comes right after the tables", "images",
+     ' or self.first < end or short', ' or self.first != end or short')
+twin("images", "zone-log-ignored", "a zone may have more than one block", "images",
+     'if scale or not self.inodes', 'if not self.inodes')
+twin("images", "features-before-kind", "features are tested before the type of the journal's superblock", "journal",
+     '        if int.from_bytes(head[4:8], "big") != SUPER:\n            raise Fault("bad kind", self.base)\n        if incompat & ~(REVOKES_FEATURE | WIDE_FEATURE):\n            raise Fault(f"feature {incompat & ~(REVOKES_FEATURE | WIDE_FEATURE)}", self.base)\n', '        if incompat & ~(REVOKES_FEATURE | WIDE_FEATURE):\n            raise Fault(f"feature {incompat & ~(REVOKES_FEATURE | WIDE_FEATURE)}", self.base)\n        if int.from_bytes(head[4:8], "big") != SUPER:\n            raise Fault("bad kind", self.base)\n')
+twin("images", "feature-all-bits", "all features are reported, also those that are known", "journal",
+     'raise Fault(f"feature {incompat & ~(REVOKES_FEATURE | WIDE_FEATURE)}", self.base)', 'raise Fault(f"feature {incompat}", self.base)')
+twin("images", "first-zero-ok", "the log may begin at the superblock", "journal",
+     '0 < self.first < self.end', 'self.first < self.end')
+twin("images", "start-at-end-ok", "the start may be the end of the journal", "journal",
+     'self.first <= self.start < self.end', 'self.first <= self.start <= self.end')
+twin("images", "start-before-first-ok", "the start may lie before the first block of the log", "journal",
+     'self.first <= self.start < self.end', 'self.start < self.end')
+twin("images", "longer-journal-ok", "a journal may have a block more than there are", "journal",
+     ' or self.end > image.count - self.base', ' or self.end > image.count - self.base + 1')
+twin("images", "no-seq-wrap", "sequences go on past 2^32", "journal",
+     'expected = (self.sequence + len(self.transactions)) % 2**32', 'expected = self.sequence + len(self.transactions)')
+twin("images", "super-in-log-ends-not", "a superblock in the log does not end it", "journal",
+     'kind not in (DESCRIPTOR, COMMIT, REVOKE)', 'kind not in (DESCRIPTOR, COMMIT, REVOKE, SUPER)')
+twin("images", "fault-in-broken-tx", "a bad revoke block counts also where its transaction is not whole", "journal",
+     '                listed = self.revoked(block)\n                fault = fault or (Fault("bad count", here) if listed is None else None)\n', "                listed = self.revoked(block)\n                if listed is None: raise Fault('bad count', here)\n")
+twin("images", "fault-last", "the last bad descriptor of a transaction is reported", "journal",
+     '                if any(not 2 <= home < self.image.zones for home, _ in tags):\n                    fault = fault or Fault("bad count", here)\n', '                if any(not 2 <= home < self.image.zones for home, _ in tags):\n                    fault = Fault("bad count", here)\n')
+twin("images", "tag-block-1-ok", "a tag may be for block 1", "journal",
+     'not 2 <= home < self.image.zones for home', 'not 1 <= home < self.image.zones for home')
+twin("images", "tag-behind-ok", "a tag may be for the block after the volume", "journal",
+     'not 2 <= home < self.image.zones for home', 'not 2 <= home <= self.image.zones for home')
+twin("images", "tags-run-over-counts", "a descriptor counts whose bodies run over the log's end", "journal",
+     '                if at + len(tags) > self.end - self.first:\n                    return\n', '')
+twin("images", "high-half-ignored", "the high half of a block number in a wide tag is not read", "journal",
+     'home += int.from_bytes(block[at + 8 : at + 12], "big") << 32 if self.wide else 0', 'home += 0')
+twin("images", "half-uuid-tag-counts", "a tag counts whose uuid does not fit", "journal",
+     '            if at > BLOCK:\n                break\n', '')
+twin("images", "flags-32", "a last tag that is escaped does not end the tags", "journal",
+     '            if flags & LAST:\n                break', '            if flags == LAST or flags == LAST | SAME_UUID:\n                break')
+twin("images", "uuid-never-skipped", "only the first tag has a uuid", "journal",
+     'at += length + (0 if flags & SAME_UUID else UUID)', 'at += length + (0 if flags & SAME_UUID or found else UUID)')
+twin("images", "revoke-count-from-12", "a revoke block may count from 12 bytes on", "journal",
+     'if not 16 <= count <= BLOCK', 'if not 12 <= count <= BLOCK')
+twin("images", "revoke-count-any-most", "a revoke block may count half a number", "journal",
+     'if not 16 <= count <= BLOCK or (count - 16) % width:', 'if not 16 <= count <= BLOCK:')
+twin("images", "revoke-count-more", "a revoke block may count more than 1,024 bytes", "journal",
+     'if not 16 <= count <= BLOCK or (count - 16) % width:', 'if not 16 <= count or (count - 16) % width:')
+twin("images", "revoke-high-half-ignored", "the high half of a revoked number is not read", "journal",
+     'return [int.from_bytes(block[at : at + width], "big") for at in range(16, count, width)]', 'return [int.from_bytes(block[at : at + width], "big") % 2**32 for at in range(16, count, width)]')
+twin("images", "escape-ignored", "a body that was escaped stays so", "journal",
+     'return JOURNAL_MAGIC + stored[4:] if flags & ESCAPED else stored', 'return stored')
+twin("images", "escape-only-if-zeros", "a body is unescaped only where zeros are stored", "journal",
+     'return JOURNAL_MAGIC + stored[4:] if flags & ESCAPED else stored', 'return JOURNAL_MAGIC + stored[4:] if flags & ESCAPED and stored[:4] == bytes(4) else stored')
+twin("images", "deleted-not-copied", "a body with the flag 4 does not count", "journal",
+     'found |= {home: (place, flags) for home, place, flags in bodies}', 'found |= {home: (place, flags) for home, place, flags in bodies if not flags & 4}')
+twin("images", "revokes-cancel-later-first", "a revoke cancels no body of its own transaction", "journal",
+     '            found |= {home: (place, flags) for home, place, flags in bodies}\n            for block in revokes:\n                found.pop(block, None)\n        return found', '            for block in revokes:\n                found.pop(block, None)\n            found |= {home: (place, flags) for home, place, flags in bodies}\n        return found')
+twin("images", "old-super-no-journal", "a superblock of type 3 is no journal", "images",
+     'in (OLD_SUPER, SUPER)\n\n    # The', 'in (SUPER,)\n\n    # The')
+twin("images", "log-wraps-to-1", "the log goes on at the block behind the superblock", "journal",
+     'return self.base + self.first + (self.start - self.first + at) % (self.end - self.first)', 'return self.base + 1 + (self.start - 1 + at) % (self.end - 1)')
+twin("images", "root-kind-late", "inode 1 may be no directory", "images",
+     '        if number == 1 and not is_directory:\n            raise Fault("bad inode", self.home(number))\n', '')
+twin("images", "slot-multiple-16", "the size of a directory is of whole slots of 16 bytes, also with long names", "images",
+     'size % calls.slot_bytes(self.names)', 'size % 16')
+twin("images", "zone-first-bad", "the first zone of data is none", "images",
+     'if not self.first <= zone < self.zones or zone in self.met:', 'if not self.first < zone < self.zones or zone in self.met:')
+twin("images", "zone-twice-ok", "a zone may be met twice", "images",
+     'if not self.first <= zone < self.zones or zone in self.met:', 'if not self.first <= zone < self.zones:')
+twin("images", "slot-inode-zero-last", "a slot may name the inode after the last one", "images",
+     'if number > self.inodes or not name', 'if number >= self.inodes + 2 or not name')
+twin("images", "slot-order-names", "entries come in the order of their slots", "images",
+     '        return [(number, f"{path.rstrip(\'/\')}/{spelled(name)}") for name, number in sorted(found.items())]', '        return [(number, f"{path.rstrip(\'/\')}/{spelled(name)}") for name, number in found.items()]')
+twin("images", "slot-dir-at-walk", "a slot may name the root", "images",
+     '            if number in self.named:\n                raise Fault("bad slot", zone)\n            self.named.add(number)', '            if number in self.named and number != 1:\n                raise Fault("bad slot", zone)\n            self.named.add(number)')
+twin("images", "slots-past-size", "slots past the size count", "images",
+     'for place in range(0, min(BLOCK, size - at * BLOCK), width):', 'for place in range(0, BLOCK if at * BLOCK < size else 0, width):')
+twin("images", "dot-tested", "a dot is tested where its inode is past the last", "images",
+     'if number and name not in (b".", b".."):', 'if number and name not in (b".", b"..") or number > self.inodes:')
+twin("images", "spell-tilde", "a space in a name is spelled as it is", "images",
+     'if 0x21 <= byte <= 0x7E and byte != 0x5C', 'if 0x20 <= byte <= 0x7E and byte != 0x5C')
+twin("images", "spell-del", "the byte 0x7F in a name is spelled as it is", "images",
+     'if 0x21 <= byte <= 0x7E and byte != 0x5C', 'if 0x21 <= byte <= 0x7F and byte != 0x5C')
+twin("images", "spell-backslash", "a backslash in a name is spelled as it is", "images",
+     'if 0x21 <= byte <= 0x7E and byte != 0x5C', 'if 0x21 <= byte <= 0x7E')
+twin("images", "links-16", "a file has a link at least", "images",
+     'file {path} size {size} links {links}', 'file {path} size {size} links {max(links,1)}')
+twin("images", "mode-octal-7", "a mode has as many octal digits as it needs", "images",
+     'mode {mode:06o}', 'mode {mode:o}')
+twin("images", "missing-block-number", "the last block that is missing is reported", "images",
+     'raise Fault("bad geometry", self.count)\n        if self.has', 'raise Fault("bad geometry", self.zones)\n        if self.has')
+twin("images", "blocksize-ignored", "the size of the journal's blocks is not tested", "journal",
+     'size == BLOCK and 0 < self.first', '0 < self.first')
+twin("images", "file-size-not-limited", "a file may have any size", "images",
+     'if size > LARGEST or is_directory and', 'if is_directory and size > LARGEST or is_directory and')
+twin("images", "size-limit-less", "the greatest size of a node is one byte less", "images",
+     'if size > LARGEST or', 'if size >= LARGEST or')
+
+# What `check` says
+
+twin("check", "zone-map-first", "the map of the zones is tested first", "clean",
+     '(check.inode_map, check.zone_map, check.links, check.dots)', '(check.zone_map, check.inode_map, check.links, check.dots)')
+twin("check", "dots-before-links", "dots are tested before links", "clean",
+     '(check.inode_map, check.zone_map, check.links, check.dots)', '(check.inode_map, check.zone_map, check.dots, check.links)')
+twin("check", "knows-all-always", "a bit of a zone that none has is wrong also beside nodes of other kinds", "clean",
+     'knows_all = self.reached <= {*reader.paths, *reader.listed_in}', 'knows_all = True')
+twin("check", "set-bits-not-tested", "a bit of a zone that none has is never wrong", "clean",
+     'knows_all = self.reached <= {*reader.paths, *reader.listed_in}', 'knows_all = False')
+twin("check", "dir-links-by-names", "a directory has a link for each name in it", "clean",
+     'wanted = 2 + sum(child in self.reader.listed_in for child in self.reader.listed_in[inode][2].values())', 'wanted = 2 + len(self.reader.listed_in[inode][2])')
+twin("check", "root-links-more", "the links of the root are not tested", "clean",
+     '            if self.reader.inode(inode)[2] != wanted:', '            if self.reader.inode(inode)[2] != wanted and inode != 1:')
+twin("check", "dots-size-not-tested", "a directory may have fewer than two slots", "clean",
+     'if size < 2 * width or slots !=', 'if slots !=')
+twin("check", "dots-only-dot", "the second dot is not tested", "clean",
+     'slots != [(inode, b"."), (self.parents[inode], b"..")]', 'slots[0] != (inode, b".")')
+twin("check", "dots-swapped-ok", "the dots may stand in either order", "clean",
+     'slots != [(inode, b"."), (self.parents[inode], b"..")]', 'sorted(slots, key=lambda s: s[1]) != [(inode, b"."), (self.parents[inode], b"..")]')
+twin("check", "dots-hole-block", "wrong dots in a hole are reported at the next zone", "clean",
+     'mapped.get(0, self.reader.home(inode))', 'mapped.get(0, min(mapped.values(), default=self.reader.home(inode)))')
+twin("check", "dots-by-walk-order", "dots are tested in the order of the walk", "clean",
+     'for inode, (mapped, size, _) in sorted(self.reader.listed_in.items()):', 'for inode, (mapped, size, _) in self.reader.listed_in.items():')
+twin("check", "inode-last-not", "the bit of the last inode is not tested", "clean",
+     'for inode in range(1, self.reader.inodes + 1):', 'for inode in range(1, self.reader.inodes):')
+twin("check", "zone-last-not", "the bit of the last zone is not tested", "clean",
+     'for zone in range(reader.first, reader.zones):', 'for zone in range(reader.first, reader.zones - 1):')
+twin("check", "zone-bit-off", "zones have bits from 0 on", "clean",
+     'zone - reader.first + 1)', 'zone - reader.first)')
+twin("check", "other-links-not", "the links of nodes of other kinds are not tested", "clean",
+     '        for inode in sorted(self.reached):\n', '        for inode in sorted(self.reached & {*self.reader.paths, *self.reader.listed_in}):\n')
+twin("check", "inode-bit", "the bit of an inode that no name leads to is never wrong", "clean",
+     'if bit != (inode in self.reached):', 'if not bit and inode in self.reached:')
+
+# Stores
+
+twin("stores", "ack-at-begin", "a put right before a flush is not acknowledged by it", "stores",
+     '            last = puts', '            last = puts - 1 if puts else 0')
+twin("stores", "ack-any-flush", "a flush acknowledges also where it did not end as ok", "stores",
+     'if answer.startswith("1 fdatasync ") and answer.endswith(": ok"):', 'if answer.startswith("1 fdatasync "):')
+twin("stores", "ack-ok-puts", "only puts whose write was answered with ok are acknowledged", "stores",
+     'puts += answer.startswith("1 bytes ")', 'puts += answer.startswith("1 bytes ") and answer.endswith(": ok")')
+twin("stores", "ack-by-barriers", "a put has ended with its barrier", "stores",
+     'puts += answer.startswith("1 bytes ")', 'puts += answer.startswith("1 fdatabarrier ")')
+twin("stores", "ack-first-fsync", "the fsync of the log acknowledges too", "stores",
+     'if answer.startswith("1 fdatasync ") and answer.endswith(": ok"):', 'if answer.startswith(("1 fdatasync ", "1 fsync ")) and answer.endswith(": ok"):')
+twin("stores", "first-value", "a key has the value of its first put", "stores",
+     'sorted(dict(held).items())', 'sorted(dict(reversed(held)).items())')
+twin("stores", "insertion-order", "keys come in the order of their first puts", "stores",
+     'for key, value in sorted(dict(held).items())', 'for key, value in dict(held).items()')
+twin("stores", "number-not-tested", "a block counts whatever its number", "stores",
+     'if put is None or put[0] != number:', 'if put is None:')
+twin("stores", "zeros-not-tested", "a block counts whatever stands behind its value", "stores",
+     ' or block(number, key, value) != body:', ' or False:')
+twin("stores", "held-goes-on", "the log goes on behind a block that is no put", "stores",
+     '            break\n        found.append', '            continue\n        found.append')
+twin("stores", "zones-15", "the volume has N + 15 blocks", "stores",
+     'zones {room + 16}', 'zones {room + 15}')
+twin("stores", "zones-20", "the volume has N + 20 blocks", "stores",
+     'zones {room + 16}', 'zones {room + 20}')
+twin("stores", "inodes-64", "the volume has 64 inodes", "stores",
+     'volume inodes 32', 'volume inodes 64')
+twin("stores", "fill-fdatasync", "the log is synced by fdatasync at first", "stores",
+     'calls.append("fsync /log")', 'calls.append("fdatasync /log")')
+twin("stores", "key-33", "a key has up to 33 letters", "stores",
+     '{1,32}")', '{1,33}")')
+twin("stores", "value-201", "a value has up to 201 letters", "stores",
+     '{1,200}")', '{1,201}")')
+twin("stores", "key-colon", "a key may have a colon", "stores",
+     '[A-Za-z0-9._-]"', '[A-Za-z0-9._:-]"')
+twin("stores", "put-calls-one", "a put counts as one call", "stores",
+     '            self.more(2)\n', '            self.more(1)\n')
+twin("stores", "calls-without-fill", "the calls that fill the log do not count", "stores",
+     'self.calls = len(calls_of(self.room, []))', 'self.calls = 0')
+twin("stores", "fill-32k", "the log is filled by 32,768 bytes a call", "stores",
+     'FILL = LENGTH[1]', 'FILL = 32_768')
+twin("stores", "room-1001", "a store has up to 1,001 blocks", "grammar",
+     'MOST_ROOM = 1_000', 'MOST_ROOM = 1_001')
+
+# Widening
+
+twin("widening", "log-stays", "the journal keeps its log", "widening", "        if journal and journal.start:\n", "        if journal and not journal.start:\n")
+twin("widening", "sequence-early", "the recovered journal goes on with the sequence that was missing", "widening",
+     "len(journal.transactions) + 1) % 2**32", "len(journal.transactions)) % 2**32")
+twin("widening", "long-anew", "an image with long names is written anew too", "widening", "if self.reader.names == LONG_NAMES:", "if self.reader.names == 0:")
+twin("widening", "magic-stays", "the magic number stays", "widening", "if width == LONG_NAMES)", "if width == self.reader.names)")
+twin("widening", "names-unsorted", "names stand in the order of their slots", "widening", "sorted(self.reader.listed_in[inode][2].items())", "list(self.reader.listed_in[inode][2].items())")
+twin("widening", "parent-is-root", "each directory has the root for its parent", "widening", 'self.rewrite(inode, parents[inode], free)', 'self.rewrite(inode, 1, free)')
+twin("widening", "bits-stay", "the bits of zones that are taken stay 0", "widening", "            self.mark(zone, True)\n", "            self.mark(zone, False)\n")
+twin("widening", "freed-bits-stay", "the bits of zones that are not needed any more stay", "widening", "            self.mark(zone, False)\n", "            self.mark(zone, True)\n")
+twin("widening", "marked-zone-taken", "a zone that nothing has is taken also where its bit is 1", "widening", " and not self.data[at] & bit", "")
+twin("widening", "highest-zone", "the highest free zone is taken first", "widening", "free.pop(0)", "free.pop()")
+twin("widening", "size-of-16", "the size counts 16 bytes for each slot", "widening", "WIDTH * len(slots)", "16 * len(slots)")

@@ -14,7 +14,7 @@ from barrierfs_tools.runs.progress import Progress
 from barrierfs_tools.scripts import cases
 
 # The modules of the second program, each before those that use it.
-MODULES = "grammar bodies faults calls places blocks recovery host journal images clean stores".split()
+MODULES = "grammar bodies faults calls places blocks recovery host journal images clean stores widening".split()
 PACKAGE = "barrierfs_tools.model"
 FIRST_ROUND, LONGEST_ROUND = 8, 256  # inputs that are tried before the list of twins is made shorter
 MOST = 5000

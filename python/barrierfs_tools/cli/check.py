@@ -17,11 +17,7 @@ from barrierfs_tools.runs.program import program_at
 
 EXAMPLE = """  tools/check
   tools/check --only pytest -- -k grammar"""
-STEPS = {
-    "mypy": ["mypy", "--no-incremental"],
-    "pylint": ["pylint", "barrierfs_tools"],
-    "pytest": ["pytest"],
-}
+STEPS = {"mypy": ["mypy", "--no-incremental"], "pylint": ["pylint", "barrierfs_tools"], "pytest": ["pytest"]}
 
 
 def passes(name: str, more: list[str], env: dict[str, str]) -> bool:

@@ -81,8 +81,15 @@ def synced(attempts: list[str]) -> list[str]:
     return [VOLUME, "thread 1", "create /a", "write /a 0 5000 11", "fsync /a", "events", "round 200", *attempts]
 
 
-def cases() -> Iterator[tuple[str, list[str]]]:
+def cases() -> Iterator[Dear]:
     """Name and lines of each script."""
+    yield from of_schedulers()
+    yield from of_devices()
+    yield from of_sessions()
+
+
+def of_schedulers() -> Iterator[Dear]:
+    """Attempts of recovery, and events of the scheduler."""
     defaults = "recover" + " d1000000" * 1000
     yield "one line of a thousand d1000000", synced([defaults])
     yield "a hundred lines of a thousand d1000000", synced([defaults] * 100)
@@ -97,6 +104,10 @@ def cases() -> Iterator[tuple[str, list[str]]]:
         yield f"dispatch 64{said} of 64 blocks, 4 MB", pairs(filled(["dispatch 64 x 50"]), *header)
         yield f"dispatch 127{said}, 4 MB", blocks(filled(["dispatch 128 x 60"]), *header)
         yield f"accept{said}, 19 million", blocks(repeated("accept"), *header)
+
+
+def of_devices() -> Iterator[Dear]:
+    """Events of the device."""
     yield "transfer 32 of merged commands, 19 million", merged_pairs(repeated("transfer 32"))
     yield "transfer 32 of merged commands, 4 MB", merged_pairs(filled(["transfer 32 x 50"]))
     for pick in (64, 4_294_967_295):
@@ -137,6 +148,10 @@ def cases() -> Iterator[tuple[str, list[str]]]:
         *["receive x 64", "transfer 0 x 64"] * 15,
     ]
     yield "persist 1000 on flash, 19 million", [*flash, *repeated("persist 1000")]
+
+
+def of_sessions() -> Iterator[Dear]:
+    """Events of the host, and the largest volume."""
     files = [line for at in range(30) for line in (f"create /{at}", f"write /{at} 0 65536 11")]
     held = ["volume inodes 64 zones 4000 journal 128", "thread 1", *files, "events", "call 1 x 60"]
     yield "write 4294967295 with many dirty pages, 19 million", [*held, *repeated("write 4294967295")]

@@ -6,7 +6,7 @@ import signal
 from collections.abc import Callable, Sequence
 from types import FrameType
 
-from barrierfs_tools.model import blocks, clean, crashes, faults, host, images, stores, threads
+from barrierfs_tools.model import blocks, clean, crashes, faults, host, images, stores, threads, widening
 from barrierfs_tools.model.grammar import spoken
 from barrierfs_tools.scripts import mutated, random_images
 from barrierfs_tools.scripts.random_scripts import (
@@ -104,6 +104,13 @@ def image_case(rng: random.Random, seed: int) -> Case:
     return Case(f"{words[0]} of image {seed}", lambda printed: image_fault(words, printed, said_by(data)), words, data)
 
 
+def widen_case(_: random.Random, seed: int) -> Case:
+    """An image, most often a damaged one: its bytes once it has long names."""
+    data = random_images.damaged_image(seed)
+    name = f"widen --raw of image {seed}"
+    return Case(name, lambda printed: difference(printed, widening.report(data)), ["widen", "--raw"], data)
+
+
 def image_fault(words: Sequence[str], printed: str, wanted: str) -> str | None:
     """A widened image has the tree that it had, or had no room."""
     return None if list(words) == ["widen"] and printed == "barrierfs: no room\n" else difference(printed, wanted)
@@ -178,6 +185,7 @@ CASES = {
     "mutant": mutant_case,
     "store": store_case,
     "threads": threads_case,
+    "widen": widen_case,
 }
 HOSTILE = ("image", "mutant")  # kinds of inputs of which any bytes may come, and none may take long
 
