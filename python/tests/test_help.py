@@ -5,9 +5,9 @@ import re
 import pytest
 from conftest import ROOT, Run
 
-TOOLS = ["sweep", "explain", "recoveries", "campaign", "believe", "check"]
+TOOLS = ["sweep", "explain", "recoveries", "campaign", "believe", "check", "usage"]
 EXAMPLES = ["random", "rows", "runs", "frames", "survival", "compare"]
-OUTSIDE = ["rows", "twins", "e2fsck", "fsck_table", "full_directory"]
+OUTSIDE = ["rows", "twins", "e2fsck", "fsck_table", "full_directory", "closed_media.py"]
 BENCH = ["cost.py", "cuts.py", "dear", "images.py", "measure.py", "picture.py", "refused", "run", "scripts.py"]
 COMMANDS = [f"tools/{name}" for name in TOOLS] + [f"examples/{name}" for name in EXAMPLES]
 COMMANDS += [f"examples/outside/{name}" for name in OUTSIDE] + [f"bench/{name}" for name in BENCH]

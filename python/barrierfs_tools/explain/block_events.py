@@ -1,6 +1,6 @@
 """What each event of a script of block requests did, and why it did nothing.
 
-The words come from a model, that of examples/outside/blocks.py, which was written from docs/FORMATS.md alone. After
+The words come from a model, that of barrierfs_tools/model/blocks.py, which was written from docs/FORMATS.md alone. After
 each event the model is compared with the program: both run the script up to that event, and then each of several
 endings, which empty the stack from one of its queues on. Nothing is said past the first difference."""
 

@@ -1,6 +1,6 @@
 """What each event of a volume script did, and why it did nothing, by a model of the session.
 
-The model is that of examples/outside/host.py, which was written from docs/FORMATS.md alone. Its whole report is
+The model is that of barrierfs_tools/model/host.py, which was written from docs/FORMATS.md alone. Its whole report is
 compared with the program's: of the script, of the script up to many of its events, and of endings after these, which
 bring to the medium what the queues hold, some with one thread more. Where one report differs, nothing of this is
 said."""
