@@ -73,6 +73,18 @@ twin("calls", "slots-33215", "a directory has at most a slot less than it may", 
 twin("calls", "rmdir-keeps-link", "a removed directory leaves its parent's links as they were", "calls", "        directory.links -= 1\n", "")
 twin("calls", "refusal-order", "no inode is tested before the slots and the links", "calls",
      "        if links and directory.links >= MOST_LINKS:", "        if inode and len(self.nodes) >= self.inodes:\n            raise Refused(\"no inode\")\n        if links and directory.links >= MOST_LINKS:")
+twin("calls", "mkdir-links-first", "a new directory is refused for its parent's links before its name", "calls",
+     '            raise Refused("exists")\n        if links and directory.links >= MOST_LINKS:\n            raise Refused("too many links")\n',
+     '            raise Refused("too many links" if links and directory.links >= MOST_LINKS else "exists")\n        if links and directory.links >= MOST_LINKS:\n            raise Refused("too many links")\n')
+twin("calls", "link-links-first", "a new name of a file is refused for the file's links before its name", "calls",
+     '            raise Refused("exists")\n        if node.links >= MOST_LINKS:', '            raise Refused("too many links" if node.links >= MOST_LINKS else "exists")\n        if node.links >= MOST_LINKS:')
+twin("calls", "link-links-last", "a new name of a file is refused for the file's links after its directory's zones", "calls",
+     '        if node.links >= MOST_LINKS:\n            raise Refused("too many links")\n        self.may_grow(directory, inode=False, zones=0)\n',
+     '        self.may_grow(directory, inode=False, zones=0)\n        if node.links >= MOST_LINKS:\n            raise Refused("too many links")\n',
+     row="long.txt")
+twin("calls", "rename-links-first", "a directory is refused for its new parent's links before what stands there", "calls",
+     "        self.may_replace(node, target)\n        leaves = directory is not source\n", '        leaves = directory is not source\n        if leaves and node.is_directory and directory.links >= MOST_LINKS:\n            raise Refused("too many links")\n        self.may_replace(node, target)\n')
+twin("calls", "rename-links-within", "a directory that stays in its parent is refused for the parent's links", "calls", "if node.is_directory and leaves and directory.links >= MOST_LINKS:", "if node.is_directory and directory.links >= MOST_LINKS:")
 twin("calls", "rename-into-itself", "a directory may be moved to below itself once removed", "calls",
      "any(self.walk(others[:at]) is node for at in range(len(others)))", "directory is node")
 twin("calls", "rename-keeps-links", "a moved directory leaves the links of both parents as they were", "calls", "        if target is not node:\n            self.move_name(", "        leaves = False\n        if target is not node:\n            self.move_name(")

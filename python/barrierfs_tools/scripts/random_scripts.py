@@ -143,7 +143,7 @@ FAR = [*NEAR, 7165, 20_000, 531_446, 531_456, 1_054_288, 268_966_900, 268_966_91
 
 def many_names(rng: random.Random) -> list[str]:
     """Calls past a limit: the links of a file or of a directory, or the zones that an inode names itself."""
-    kind = rng.choice(["links", "directories", "slots", "moves", "far", "numbers", "numbers"])
+    kind = rng.choice(["links", "directories", "slots", "moves", "moves", "moves", "far", "numbers", "numbers"])
     count = rng.randint(248, 253)
     if kind == "numbers":
         # as many bodies as a descriptor has, or as many zones of numbers that are freed as a revoke block has
@@ -200,7 +200,10 @@ def many_names(rng: random.Random) -> list[str]:
 
 def moved_names(rng: random.Random) -> list[str]:
     """Renames into directories that are nearly full: of links, or of slots in their last block."""
-    if rng.random() < 0.5:
+    kind = rng.choice(["links", "linked", "linked", "slots"])
+    if kind == "linked":
+        return names_of_linked(rng)
+    if kind == "links":
         count = rng.randint(246, 249)
         return [
             "mkdir /m",
@@ -231,6 +234,22 @@ def moved_names(rng: random.Random) -> list[str]:
         "stat /m",
         "stat /k",
     ]
+
+
+def names_of_linked(rng: random.Random) -> list[str]:
+    """Names that come and move into a directory that has all its links, and within it, over directories and files or
+    not; and more names of a file that has all its links."""
+    count = rng.choice([247, 248, 248, 248])
+    made = ["create /m/f", "create /y", "mkdir /x", "mkdir /x/z"]
+    places = ["/m/f", "/m/new", "/m/other", "/y", "/x", "/x/z", "/x/7"]
+    places += [f"/m/{rng.randrange(count)}" for _ in range(4)]
+    words = ["rename", "rename", "rename", "link", "mkdir", "rmdir"]
+    changes = [(rng.choice(words), rng.choice(places), rng.choice(places)) for _ in range(rng.randint(10, 40))]
+    lines = [f"{word} {one}" + (f" {two}" if word in ("rename", "link") else "") for word, one, two in changes]
+    if rng.random() < 0.7:
+        made += [f"link /y /x/{at}" for at in range(249)]
+        lines = [*(f"link /y {rng.choice(places)}" for _ in range(4)), *lines]
+    return ["mkdir /m", *(f"mkdir /m/{at}" for at in range(count)), *made, *lines, "stat /m", "stat /y"]
 
 
 def first_line(rng: random.Random, inodes: int, zones: int, journal: int) -> str:
