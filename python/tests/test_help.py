@@ -5,7 +5,7 @@ import re
 import pytest
 from conftest import ROOT, Run
 
-TOOLS = ["sweep", "explain", "recoveries", "campaign", "believe", "check", "usage"]
+TOOLS = ["sweep", "explain", "recoveries", "campaign", "believe", "check", "usage", "hunt"]
 EXAMPLES = ["random", "rows", "runs", "frames", "survival", "compare"]
 OUTSIDE = ["rows", "twins", "e2fsck", "fsck_table", "full_directory", "closed_media.py"]
 BENCH = ["cost.py", "cuts.py", "dear", "images.py", "measure.py", "picture.py", "refused", "run", "scripts.py"]
